@@ -1,0 +1,4 @@
+// Books of lines between blocks: what a book is, and its implementations over cells that the caller lends.
+pub mod book;
+pub mod fault;
+pub mod size;
