@@ -1,4 +1,7 @@
 // Books of lines between blocks: what a book is, and its implementations over cells that the caller lends.
 pub mod book;
+pub mod cell;
 pub mod fault;
+mod search;
 pub mod size;
+mod square;

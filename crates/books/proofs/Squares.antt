@@ -1,0 +1,48 @@
+-- The square of cells: the place of a pair lies within, and what a cell there says is the book's line.
+use mathlib.Core.Path.{_≡_, refl, sym, ap, subst, _∙_}
+use mathlib.Core.Bool.{Bool, true, false, cond, _&&_}
+use mathlib.Core.List.{List, map}
+use Prim.Native.Nat.{ℕ, _+_, _*_, _≤_, _<_}
+use native.Mathlib.Omega.{arith}
+use lib.Dec.{ltb}
+use lib.ListN.{length, getD}
+use Rattle.std.proofs.shelf.Bits.{mul-add-lt}
+use Rattle.std.proofs.shelf.Lists.{getD-map}
+use Rattle.std.proofs.shelf.Tests.{cond-true, and-from, and-parts, lt-ltb, ltb-true}
+use Rattle.std.specs.Options.{isSome}
+use Rattle.std.specs.declared.option.Option.{Option}
+use Rattle.std.specs.declared.option.Option.the-variants.{Some, None}
+use Rattle.books.specs.Graph.{Bounded}
+use Rattle.books.specs.Cells.{Square, cell-line, lines, cells-meaning}
+use Rattle.books.specs.declared.cell.Cell.{Cell}
+
+-- the place of a pair of blocks is one of the first n × n
+pub place-below : (n a b : ℕ) → a < n → b < n → a * n + b < n * n
+place-below n a b upper lower = mul-add-lt a n b n upper lower
+
+pub inside : (n a b : ℕ) → a < n → b < n → (ltb a n && ltb b n) ≡ true
+inside n a b upper lower = and-from _ _ (lt-ltb a n upper) (lt-ltb b n lower)
+
+module _ {F : Type 0} (n : ℕ) (cells : List (Cell F)) (square : Square n cells) (a b : ℕ) (upper : a < n) (lower : b < n) where
+  pub place-within : a * n + b < length cells
+  place-within = omega (arith, place-below n a b upper lower, square .room)
+
+  -- the line of a pair is what is noted at its place
+  pub line-noted : cells-meaning n cells .line a b ≡ getD (lines cells) (a * n + b) None
+  line-noted = cond-true _ _ _ (inside n a b upper lower)
+
+  pub line-read : (k : ℕ) (c : Cell F) → k ≡ a * n + b → c ≡ getD cells k c → cell-line c ≡ cells-meaning n cells .line a b
+  line-read k c at read =
+      ap cell-line (read ∙ ap (λ (i : ℕ). getD cells i c) at)
+      ∙ sym (getD-map cell-line cells (a * n + b) c None place-within)
+      ∙ sym line-noted
+
+-- lines stand only between blocks
+pub cells-bounded : {F : Type 0} (n : ℕ) (cells : List (Cell F)) → Bounded (cells-meaning n cells)
+cells-bounded n cells a b line =
+    let (upper, lower) = and-parts _ _ (some-inside (ltb a n && ltb b n) (getD (lines cells) (a * n + b) None) line) in
+    (ltb-true a n upper, ltb-true b n lower)
+  where
+    some-inside : {X : Type 0} (t : Bool) (o : Option X) → isSome (cond t o None) ≡ true → t ≡ true
+    some-inside true o e = refl
+    some-inside false o e = e

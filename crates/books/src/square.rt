@@ -1,0 +1,45 @@
+// The square of cells of a book: which cell is whose, and the lines that they hold.
+ghost use mathlib.Core.Path.{_≡_};
+ghost use mathlib.Core.Bool.{cond, not, _&&_};
+ghost use Prim.Native.Nat.{_+_, _*_, _<_};
+ghost use lib.Dec.{ltb};
+ghost use lib.ListN.{length};
+ghost use Rattle.std.specs.declared.result.Result.the-variants.{Ok, Err};
+ghost use Rattle.books.specs.Calls.{refuse};
+ghost use Rattle.books.specs.Cells.{Square, cells-meaning};
+ghost use Rattle.books.specs.declared.fault.BookFault.the-variants.{NoBlock};
+use crate::cell::Cell;
+use crate::fault::BookFault;
+use factors::factor::Factor;
+
+/// Refuses a pair of which one is no block of a book of `n` blocks.
+pub(crate) fn check_pair(n: usize, a: usize, b: usize) -> Result<(), BookFault>
+    ensures { λ r. ⌜ r ≡ refuse (not (ltb a n && ltb b n)) NoBlock (Ok tt) ⌝ }
+{
+    if a < n && b < n {
+        Ok(())
+    } else {
+        Err(BookFault::NoBlock)
+    }
+}
+
+/// The place of the cell of the pair `(a, b)`.
+pub(crate) fn place<F: Factor>(cells: &[Cell<F>], n: usize, a: usize, b: usize) -> usize
+    requires square { ⌜ Square n (now cells) ⌝ }
+    requires upper { ⌜ a < n ⌝ }
+    requires lower { ⌜ b < n ⌝ }
+    ensures value { λ r. ⌜ r ≡ a * n + b ⌝ }
+    ensures within { λ r. ⌜ r < length (now (cells .entry)) ⌝ }
+{
+    a * n + b
+}
+
+/// The factor of the line of the pair `(a, b)`, if it stands.
+pub(crate) fn line_at<F: Factor>(cells: &[Cell<F>], n: usize, a: usize, b: usize) -> Option<F>
+    requires square { ⌜ Square n (now cells) ⌝ }
+    requires upper { ⌜ a < n ⌝ }
+    requires lower { ⌜ b < n ⌝ }
+    ensures { λ r. ⌜ r ≡ cells-meaning n (now (cells .entry)) .line a b ⌝ }
+{
+    cells[place(cells, n, a, b)].line()
+}
