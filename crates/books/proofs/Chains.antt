@@ -4,9 +4,9 @@
 --   chain-short, chain-within-size   a chain has fewer lines than there are blocks
 --   reaches-decides, reaches-chain, chain-reaches   computed reach is the existence of a chain
 --   search-decides   a search that has followed every line has found the reach
---   detour-decides, needed-decides, needed-is-support-one   needed lines
+--   support-counted, detour-decides, needed-decides, needed-is-support-one   supports and needed lines
 --   chain-among, circleless-among   fewer lines
---   enter-.., strike-.., with-line-.., no-lines-..   what a change of one line keeps, and what the book without lines has
+--   enter-.., strike-.., no-lines-..   a change of one line, and the book without lines
 use mathlib.Core.Path.{_≡_, refl, sym, _∙_, ap, subst}
 use mathlib.Core.Bool.{Bool, true, false, cond, not, _&&_}
 use mathlib.Core.Logic.{_⊎_, inl, inr}
@@ -22,7 +22,8 @@ use Rattle.std.proofs.shelf.Tests.{false≢true, cases-bool, eq-eqb, eqb-true, 
 use Rattle.std.proofs.shelf.Ways.{same-from-decides, not-from-decides, decides-like, decides-and, decides-not, tells}
 use Rattle.books.specs.Graph.{Meaning, no-lines, with-line, stands, Bounded, Chain, Reaches, Circleless, any-below, reaches-within, reaches, support, detour, needed}
 use Rattle.books.specs.Graph.Chain.{empty, then}
-use Rattle.books.proofs.Counts.{any-decides-of, decides-itself, any-found, any-here, count-one-decides}
+use Rattle.books.specs.Laws.{Counted}
+use Rattle.books.proofs.Counts.{any-decides-of, decides-itself, any-found, any-here, count-one-decides, count-counted}
 
 module _ {F : Type 0} {m : Meaning F} where
   pub chain-append : {j k a b c : ℕ} → Chain m j a b → Chain m k b c → Chain m (j + k) a c
@@ -83,16 +84,13 @@ module _ {F : Type 0} (m : Meaning F) (bounded : Bounded m) (circleless : Circle
       → k < s
   pigeonhole {a} empty s rank below apart = let h = below a (0, empty) in omega arith
   pigeonhole (then {k} {a} {b} t e) s rank below apart =
-      let h = pigeonhole e (s - 1) next (λ i r. next-below i (onward r) (differs r))
-      (λ i j p q same. apart i j (onward p) (onward q) (next-apart i j (differs p) (differs q) same)) in
+      let h = pigeonhole e (s - 1) next (λ i r. next-below i (reaches-after t r) (differs r))
+      (λ i j p q same. apart i j (reaches-after t p) (reaches-after t q) (next-apart i j (differs p) (differs q) same)) in
       let here = below a (0, empty) in
       omega arith
     where
       next : ℕ → ℕ
       next i = cond (eqb (rank i) (s - 1)) (rank a) (rank i)
-
-      onward : {i : ℕ} → Reaches m b i → Reaches m a i
-      onward (j, d) = (suc j, then t d)
 
       differs : {i : ℕ} → Reaches m b i → rank i ≡ rank a → ⊥
       differs {i} (j, d) same =
@@ -124,11 +122,11 @@ module _ {F : Type 0} (m : Meaning F) (bounded : Bounded m) (circleless : Circle
   chain-reaches {k} {a} {b} d = reaches-decides a b .1 (k, d)
 
   -- what a search from a has seen, once it follows every line of what it has seen, is what a reaches
-  pub search-decides : (a : ℕ) (seen : ℕ → Bool) → a < m .size → seen a ≡ true
+  pub search-decides : (a : ℕ) (seen : ℕ → Bool) → seen a ≡ true
       → ((i j : ℕ) → i < m .size → j < m .size → seen i ≡ true → stands m i j ≡ true → seen j ≡ true)
       → ((j : ℕ) → j < m .size → seen j ≡ true → Reaches m a j)
       → (j : ℕ) → j < m .size → seen j ≡ reaches m a j
-  search-decides a seen h first closed reached j l =
+  search-decides a seen first closed reached j l =
       same-from-decides (seen j) (reaches m a j) (reached j l, λ (k, d). carried first d) (reaches-decides a j)
     where
       carried : {k i n : ℕ} → seen i ≡ true → Chain m k i n → seen n ≡ true
@@ -154,6 +152,11 @@ module _ {F : Type 0} (m : Meaning F) (bounded : Bounded m) (circleless : Circle
       decides-and (stands m a b) (not (detour m a b)) (decides-itself (stands m a b))
       (decides-like (not (detour m a b)) (λ none k d. none (k, d)) (λ none (k, d). none k d)
       (decides-not (detour m a b) (detour-decides a b)))
+
+  pub support-counted : (a b : ℕ) → Counted (λ l. (stands m l b ≡ true) × Reaches m a l) (m .size) (support m a b)
+  unfolding support
+  support-counted a b =
+      count-counted (m .size) _ _ (λ l. decides-and (stands m l b) (reaches m a l) (decides-itself (stands m l b)) (reaches-decides a l))
 
   -- a line is needed if its support number is one: a reaches no other block with a line to b
   pub needed-is-support-one : (a b : ℕ) → a < m .size → stands m a b ≡ true → needed m a b ≡ eqb (support m a b) 1
@@ -191,8 +194,8 @@ module _ {F : Type 0} (m : Meaning F) (a b : ℕ) where
     | inr e ↦ inr (ap isSome (sym (cond-false (eqb i a && eqb j b) o (m .line i j) e)) ∙ s)
   ]
 
-  pub with-line-bounded : (o : Option F) → a < m .size → b < m .size → Bounded m → Bounded (with-line m a b o)
-  with-line-bounded o p q bounded i j s = elim (with-line-stands o i j s) [
+  pub enter-bounded : (o : Option F) → a < m .size → b < m .size → Bounded m → Bounded (with-line m a b o)
+  enter-bounded o p q bounded i j s = elim (with-line-stands o i j s) [
     | inl (x, y, _) ↦ (rw x p, rw y q)
     | inr old ↦ bounded i j old
   ]

@@ -2,16 +2,21 @@
 --   any-decides-of, any-decides, any-found, any-here   whether one passes
 --   count-at-most, count-same, count-none, count-some   how many pass
 --   count-only, count-unique, count-one-decides   just one passes
+--   count-counted   the count, said of a property that the test decides
 use mathlib.Core.Path.{_≡_, refl, sym, _∙_, ap, ap₂}
 use mathlib.Core.Bool.{Bool, true, false, cond}
 use mathlib.Core.Logic.{inl, inr}
 use Prim.Native.Nat.{ℕ, zero, suc, _+_, _≤_, _<_}
+use native.Mathlib.Nat.{zero-add}
+use native.Mathlib.Numerals.{one-add}
 use native.Mathlib.Omega.{arith}
 use lib.Dec.{eqb}
 use Rattle.std.specs.Orderings.{Decides}
 use Rattle.std.proofs.shelf.Tests.{both-ways, cases-bool, cases-eq, eq-eqb, eqb-true}
-use Rattle.std.proofs.shelf.Ways.{decides-below-or}
+use Rattle.std.proofs.shelf.Ways.{decides-below-or, not-from-decides}
 use Rattle.books.specs.Graph.{any-below, count-below}
+use Rattle.books.specs.Laws.{Counted}
+use Rattle.books.specs.Laws.Counted.{none, counted, passed}
 
 pub any-decides-of : (n : ℕ) (p : ℕ → Bool) (P : ℕ → Type 0) → ((k : ℕ) → Decides (p k) (P k))
     → Decides (any-below n p) ((k : ℕ) × (k < n) × P k)
@@ -79,7 +84,7 @@ count-unique (suc n) p k l one hk ek hl el = elim (cases-bool (p n)) [
 ]
   where
     last : (i : ℕ) → 1 + count-below n p ≡ 1 → i < suc n → p i ≡ true → i ≡ n
-    last i none h t = elim (cases-eq i n) [ inl same ↦ same | inr other ↦ let s = count-some n p i (omega arith) t in omega arith ]
+    last i others h t = elim (cases-eq i n) [ inl same ↦ same | inr other ↦ let s = count-some n p i (omega arith) t in omega arith ]
 
     below : p n ≡ false → (i : ℕ) → i < suc n → p i ≡ true → i < n
     below e i h t = elim (cases-eq i n) [ inl same ↦ absurd (both-ways (p n) e (ap p (sym same) ∙ t)) | inr other ↦ omega arith ]
@@ -90,3 +95,11 @@ count-one-decides n p a h e = (
   λ t k l s. count-unique n p k a (eqb-true (count-below n p) 1 t) l s h e,
   λ only. eq-eqb (count-below n p) 1 (count-only n p a h e only),
 )
+
+-- where the test decides the property, the count is the number of those that have it
+pub count-counted : (n : ℕ) (p : ℕ → Bool) (P : ℕ → Type 0) → ((k : ℕ) → Decides (p k) (P k)) → Counted P n (count-below n p)
+count-counted zero p P each = none
+count-counted (suc n) p P each = elim (cases-bool (p n)) [
+  | inl e ↦ rw (e, one-add) (counted (each n .0 e) (count-counted n p P each))
+  | inr e ↦ rw (e, zero-add) (passed (not-from-decides (p n) (each n) e) (count-counted n p P each))
+]

@@ -70,11 +70,11 @@ module _ {F : Type 0} (m : Meaning F) (a : ℕ) where
         let within : l < length visited = omega arith in
         omega (arith, sumBy-set open-place visited l true false within)
 
-  pub search-ends : Bounded m → Circleless m → a < m .size → (seen visited : List Bool) → Searched m a seen visited
+  pub search-ends : Bounded m → Circleless m → (seen visited : List Bool) → Searched m a seen visited
       → ((l : ℕ) → l < m .size → getD seen l false ≡ true → getD visited l false ≡ true)
       → (j : ℕ) → j < m .size → getD seen j false ≡ reaches m a j
-  search-ends bounded circleless block seen visited searched over =
-      search-decides m bounded circleless a (λ j. getD seen j false) block (searched .start)
+  search-ends bounded circleless seen visited searched over =
+      search-decides m bounded circleless a (λ j. getD seen j false) (searched .start)
       (λ i j upper lower at line. searched .followed i j upper lower (over i upper at) line)
       (searched .reached)
 

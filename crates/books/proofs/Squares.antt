@@ -2,18 +2,20 @@
 use mathlib.Core.Path.{_≡_, refl, sym, ap, subst, _∙_}
 use mathlib.Core.Bool.{Bool, true, false, cond, _&&_}
 use mathlib.Core.List.{List, map}
-use Prim.Native.Nat.{ℕ, _+_, _*_, _≤_, _<_}
+use Prim.Native.Nat.{ℕ, _+_, _*_, _/_, _%_, _≤_, _<_}
 use native.Mathlib.Omega.{arith}
 use lib.Dec.{ltb}
 use lib.ListN.{length, getD}
-use Rattle.std.proofs.shelf.Bits.{mul-add-lt}
+use Rattle.std.proofs.shelf.Bits.{mul-add-lt, div-mul-add, mod-mul-add}
 use Rattle.std.proofs.shelf.Lists.{getD-map}
 use Rattle.std.proofs.shelf.Tests.{cond-true, and-from, and-parts, lt-ltb, ltb-true}
 use Rattle.std.specs.Options.{isSome}
 use Rattle.std.specs.declared.option.Option.{Option}
 use Rattle.std.specs.declared.option.Option.the-variants.{Some, None}
 use Rattle.books.specs.Graph.{Bounded}
-use Rattle.books.specs.Cells.{Square, cell-line, lines, cells-meaning}
+use Rattle.books.specs.Cells.{Square, cell-line, lines, lines-meaning, cells-meaning}
+use Rattle.factors.specs.Ring.{Operations}
+use Rattle.books.specs.Walks.{noted-total}
 use Rattle.books.specs.declared.cell.Cell.{Cell}
 
 -- the place of a pair of blocks is one of the first n × n
@@ -46,3 +48,19 @@ cells-bounded n cells a b line =
     some-inside : {X : Type 0} (t : Bool) (o : Option X) → isSome (cond t o None) ≡ true → t ≡ true
     some-inside true o e = refl
     some-inside false o e = e
+
+module _ {F : Type 0} (n : ℕ) (cells : List (Cell F)) (square : Square n cells) (a b : ℕ) (upper : a < n) (lower : b < n) where
+  pub total-read : (r : Operations F) (k : ℕ) (d : Cell F) → k ≡ a * n + b → getD cells k d .total ≡ noted-total r n cells a b
+  total-read r k d at =
+      ap (λ (i : ℕ). getD cells i d .total) at
+      ∙ sym (getD-map (λ (c : Cell F). c .total) cells (a * n + b) d (r .zero) (place-within n cells square a b upper lower))
+
+-- different pairs of blocks have different places
+pub place-apart : (n a b c d : ℕ) → b < n → d < n → a * n + b ≡ c * n + d → (a ≡ c) × (b ≡ d)
+place-apart n a b c d lower below same =
+    (sym (div-mul-add a n b lower) ∙ ap (λ (k : ℕ). k / n) same ∙ div-mul-add c n d below
+    , sym (mod-mul-add a n b lower) ∙ ap (λ (k : ℕ). k % n) same ∙ mod-mul-add c n d below)
+
+-- the lines alone make the meaning
+pub same-meaning : {F : Type 0} (n : ℕ) (before after : List (Cell F)) → lines after ≡ lines before → cells-meaning n after ≡ cells-meaning n before
+same-meaning n before after same = ap (lines-meaning n) same

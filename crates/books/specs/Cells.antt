@@ -1,15 +1,20 @@
 -- How a square of cells holds a book.
---   blank-cell     the cell of a pair without a line
---   cell-line      the line that a cell holds
---   lines, factors the lines and the stored factors of a list of cells
---   cells-meaning  the book that the first n × n cells hold
---   Square         there is a cell for each pair of blocks
+--   blank-cell       the cell of a pair without a line
+--   cell-line        the line that a cell holds
+--   lines, factors, totals   one field of each cell of a list
+--   cells-meaning    the book that the first n × n cells hold
+--   Square           there is a cell for each pair of blocks
+--   PlainSound       the condition of a plain book
+--   with-cell-line, relined   a cell, and the cells, with one line set anew
+--   with-total       the cells with one total set anew
+--   Scratched        only working space of the square has changed
+--   opened-cells     the cells of a new book
 use mathlib.Core.Path.{_≡_}
-use mathlib.Core.Bool.{false, cond, _&&_}
-use mathlib.Core.List.{List, map}
+use mathlib.Core.Bool.{true, false, cond, _&&_}
+use mathlib.Core.List.{List, map, _++_}
 use Prim.Native.Nat.{ℕ, _+_, _*_, _≤_, _<_}
 use lib.Dec.{ltb}
-use lib.ListN.{length, getD, drop}
+use lib.ListN.{length, getD, set, drop, replicate}
 use Rattle.std.specs.declared.option.Option.{Option}
 use Rattle.std.specs.declared.option.Option.the-variants.{Some, None}
 use Rattle.factors.specs.Ring.{Operations}
@@ -30,10 +35,15 @@ lines cells = map cell-line cells
 abbrev pub factors : {F : Type 0} → List (Cell F) → List F
 factors cells = map (λ c. c .factor) cells
 
--- cell a × n + b is for the pair (a,b)
+abbrev pub totals : {F : Type 0} → List (Cell F) → List F
+totals cells = map (λ c. c .total) cells
+
+-- the line of the pair (a,b) stands at place a × n + b
+abbrev pub lines-meaning : {F : Type 0} → ℕ → List (Option F) → Meaning F
+lines-meaning n ls = record { size = n; line = λ a b. cond (ltb a n && ltb b n) (getD ls (a * n + b) None) None }
+
 abbrev pub cells-meaning : {F : Type 0} → ℕ → List (Cell F) → Meaning F
-cells-meaning n cells =
-    record { size = n; line = λ a b. cond (ltb a n && ltb b n) (getD (lines cells) (a * n + b) None) None }
+cells-meaning n cells = lines-meaning n (lines cells)
 
 -- the size is one that a book can have, and each pair of blocks has a cell
 pub record Square {F : Type 0} (n : ℕ) (cells : List (Cell F)) : Type 0 where
@@ -46,8 +56,27 @@ pub record PlainSound {F : Type 0} (zero : F) (n : ℕ) (cells : List (Cell F)) 
   pub vacant : (k : ℕ) → k < n * n → getD (lines cells) k None ≡ None → getD (factors cells) k zero ≡ zero
   pub circleless : Circleless (cells-meaning n cells)
 
--- a query of a plain book alters working space only: lines, factors and the cells past the square stay
+-- the same cell with another line; the factor is zero without one
+abbrev pub with-cell-line : {F : Type 0} → F → Cell F → Option F → Cell F
+with-cell-line zero c (Some f) = record { total = c .total; factor = f; support = c .support; stands = true }
+with-cell-line zero c None = record { total = c .total; factor = zero; support = c .support; stands = false }
+
+-- the cells with the line at place k set anew
+abbrev pub relined : {F : Type 0} → F → List (Cell F) → ℕ → Option F → List (Cell F)
+relined zero cells k o = set cells k (with-cell-line zero (getD cells k (blank-cell zero)) o)
+
+-- the cells with the total at place k set anew
+abbrev pub with-total : {F : Type 0} → F → List (Cell F) → ℕ → F → List (Cell F)
+with-total zero cells k x =
+    let c = getD cells k (blank-cell zero) in
+    set cells k (record { total = x; factor = c .factor; support = c .support; stands = c .stands })
+
+-- only working space has changed: the lines, the factors and the cells past the square are as they were
 pub record Scratched {F : Type 0} (n : ℕ) (before after : List (Cell F)) : Type 0 where
   pub same-lines : lines after ≡ lines before
   pub same-factors : factors after ≡ factors before
   pub beyond : drop (n * n) after ≡ drop (n * n) before
+
+-- the cells of a new book of n blocks: the square is blank, the others are as they were
+abbrev pub opened-cells : {F : Type 0} → F → ℕ → List (Cell F) → List (Cell F)
+opened-cells zero n cells = replicate (n * n) (blank-cell zero) ++ drop (n * n) cells

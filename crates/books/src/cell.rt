@@ -1,6 +1,6 @@
 // The cell of a pair of blocks.
 ghost use mathlib.Core.Path.{_≡_};
-ghost use Rattle.books.specs.Cells.{blank-cell, cell-line};
+ghost use Rattle.books.specs.Cells.{blank-cell, cell-line, with-cell-line};
 use factors::factor::Factor;
 
 /// What stands at a pair of blocks. The widest fields come first, which leaves the least padding.
@@ -30,5 +30,23 @@ impl<F: Factor> Cell<F> {
         ensures { λ r. ⌜ r ≡ cell-line self ⌝ }
     {
         if self.stands { Some(self.factor) } else { None }
+    }
+
+    /// The same cell with another line, or with none.
+    pub(crate) fn with_line(self, line: Option<F>) -> Self
+        ensures { λ r. ⌜ r ≡ with-cell-line (F·Factor .ring .ops .zero) self line ⌝ }
+    {
+        match line {
+            Some(factor) => Cell {
+                factor,
+                stands: true,
+                ..self
+            },
+            None => Cell {
+                factor: F::zero(),
+                stands: false,
+                ..self
+            },
+        }
     }
 }

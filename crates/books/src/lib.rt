@@ -2,6 +2,8 @@
 pub mod book;
 pub mod cell;
 pub mod fault;
+pub mod laws;
 mod search;
 pub mod size;
 mod square;
+mod walks;

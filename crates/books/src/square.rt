@@ -6,7 +6,7 @@ ghost use lib.Dec.{ltb};
 ghost use lib.ListN.{length};
 ghost use Rattle.std.specs.declared.result.Result.the-variants.{Ok, Err};
 ghost use Rattle.books.specs.Calls.{refuse};
-ghost use Rattle.books.specs.Cells.{Square, cells-meaning};
+ghost use Rattle.books.specs.Cells.{Square, cells-meaning, relined, with-total};
 ghost use Rattle.books.specs.declared.fault.BookFault.the-variants.{NoBlock};
 use crate::cell::Cell;
 use crate::fault::BookFault;
@@ -42,4 +42,26 @@ pub(crate) fn line_at<F: Factor>(cells: &[Cell<F>], n: usize, a: usize, b: usize
     ensures { λ r. ⌜ r ≡ cells-meaning n (now (cells .entry)) .line a b ⌝ }
 {
     cells[place(cells, n, a, b)].line()
+}
+
+/// Sets the line of the pair `(a, b)` anew.
+pub(crate) fn set_line<F: Factor>(cells: &mut [Cell<F>], n: usize, a: usize, b: usize, line: Option<F>)
+    requires square { ⌜ Square n (now cells) ⌝ }
+    requires upper { ⌜ a < n ⌝ }
+    requires lower { ⌜ b < n ⌝ }
+    ensures { λ _. ⌜ now (cells .exit) ≡ relined (F·Factor .ring .ops .zero) (now (cells .entry)) (a * n + b) line ⌝ }
+{
+    let k = place(cells, n, a, b);
+    cells[k] = cells[k].with_line(line);
+}
+
+/// Sets the total of the pair `(a, b)` anew.
+pub(crate) fn set_total<F: Factor>(cells: &mut [Cell<F>], n: usize, a: usize, b: usize, total: F)
+    requires square { ⌜ Square n (now cells) ⌝ }
+    requires upper { ⌜ a < n ⌝ }
+    requires lower { ⌜ b < n ⌝ }
+    ensures { λ _. ⌜ now (cells .exit) ≡ with-total (F·Factor .ring .ops .zero) (now (cells .entry)) (a * n + b) total ⌝ }
+{
+    let k = place(cells, n, a, b);
+    cells[k].total = total;
 }

@@ -29,4 +29,4 @@ loop-l-again g c =
 
 pub returns : need.returns
 returns g c =
-    search-ends (cells-meaning (c .args .n) (c .args .cells .now)) (c .args .a) (cells-bounded (c .args .n) (c .args .cells .now)) (c .pre .circleless) (c .pre .block) (c .loop-l .seen) (c .loop-l .visited) (c .loop-l .inv) (c .in-rest .ensures tt)
+    search-ends (cells-meaning (c .args .n) (c .args .cells .now)) (c .args .a) (cells-bounded (c .args .n) (c .args .cells .now)) (c .pre .circleless) (c .loop-l .seen) (c .loop-l .visited) (c .loop-l .inv) (c .in-rest .ensures tt)

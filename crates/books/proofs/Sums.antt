@@ -1,0 +1,101 @@
+-- Sums over the numbers below a bound in a ring, and the laws of zero.
+--   zero-add, add-exchange, mul-zero, zero-mul   what the laws of a ring give at once
+--   sum-same, sum-zeros, sum-add   sums term by term
+--   mul-sum, sum-mul, sum-exchange   a factor, or another sum, moved through a sum
+--   sum-first, sum-only, sum-apart   one term taken out
+use mathlib.Core.Path.{_≡_, refl, sym, _∙_, ap, ap₂}
+use mathlib.Core.Bool.{Bool, true, false, cond}
+use mathlib.Core.Logic.{inl, inr}
+use Prim.Native.Nat.{ℕ, zero, suc, _<_}
+use native.Mathlib.Omega.{arith}
+use lib.Dec.{eqb}
+use Rattle.std.proofs.shelf.Tests.{cases-eq, eq-eqb, ne-eqb, cond-true, cond-false}
+use Rattle.factors.specs.Ring.{Operations, Ring}
+use Rattle.books.specs.Graph.{sum-below}
+
+module _ {F : Type 0} (r : Ring F) where
+  open Operations (r .ops) using (zero as o, add as _⊕_, mul as _⊗_)
+
+  infixl 60 _⊕_
+  infixl 70 _⊗_
+  pub zero-add : (x : F) → o ⊕ x ≡ x
+  zero-add x = r .add-comm o x ∙ r .add-zero x
+
+  pub add-exchange : (w x y z : F) → w ⊕ x ⊕ (y ⊕ z) ≡ w ⊕ y ⊕ (x ⊕ z)
+  add-exchange w x y z =
+      r .add-assoc w x (y ⊕ z)
+      ∙ ap (λ u. w ⊕ u) (sym (r .add-assoc x y z) ∙ ap (λ u. u ⊕ z) (r .add-comm x y) ∙ r .add-assoc y x z)
+      ∙ sym (r .add-assoc w y (x ⊕ z))
+
+  twice-zero : (x : F) → x ⊕ x ≡ x → x ≡ o
+  twice-zero x same =
+      sym (r .add-zero x)
+      ∙ ap (λ u. x ⊕ u) (sym (r .add-opposite x))
+      ∙ sym (r .add-assoc x x (r .opposite x))
+      ∙ ap (λ u. u ⊕ r .opposite x) same
+      ∙ r .add-opposite x
+
+  pub mul-zero : (x : F) → x ⊗ o ≡ o
+  mul-zero x = twice-zero (x ⊗ o) (sym (r .mul-add x o o) ∙ ap (λ y. x ⊗ y) (r .add-zero o))
+
+  pub zero-mul : (x : F) → o ⊗ x ≡ o
+  zero-mul x = twice-zero (o ⊗ x) (sym (r .add-mul o o x) ∙ ap (λ y. y ⊗ x) (r .add-zero o))
+
+  abbrev pub sum : ℕ → (ℕ → F) → F
+  sum = sum-below (r .ops)
+
+  pub sum-same : (n : ℕ) (f g : ℕ → F) → ((k : ℕ) → k < n → f k ≡ g k) → sum n f ≡ sum n g
+  sum-same zero f g same = refl
+  sum-same (suc n) f g same = ap₂ _⊕_ (sum-same n f g (λ k h. same k (omega arith))) (same n (omega arith))
+
+  pub sum-zeros : (n : ℕ) (f : ℕ → F) → ((k : ℕ) → k < n → f k ≡ o) → sum n f ≡ o
+  sum-zeros zero f zeros = refl
+  sum-zeros (suc n) f zeros =
+      ap₂ _⊕_ (sum-zeros n f (λ k h. zeros k (omega arith))) (zeros n (omega arith)) ∙ r .add-zero o
+
+  pub sum-add : (n : ℕ) (f g : ℕ → F) → sum n (λ k. f k ⊕ g k) ≡ sum n f ⊕ sum n g
+  sum-add zero f g = sym (r .add-zero o)
+  sum-add (suc n) f g =
+      ap (λ u. u ⊕ (f n ⊕ g n)) (sum-add n f g) ∙ add-exchange (sum n f) (sum n g) (f n) (g n)
+
+  pub mul-sum : (n : ℕ) (x : F) (f : ℕ → F) → x ⊗ sum n f ≡ sum n (λ k. x ⊗ f k)
+  mul-sum zero x f = mul-zero x
+  mul-sum (suc n) x f = r .mul-add x (sum n f) (f n) ∙ ap (λ u. u ⊕ x ⊗ f n) (mul-sum n x f)
+
+  pub sum-mul : (n : ℕ) (x : F) (f : ℕ → F) → sum n f ⊗ x ≡ sum n (λ k. f k ⊗ x)
+  sum-mul zero x f = zero-mul x
+  sum-mul (suc n) x f = r .add-mul (sum n f) (f n) x ∙ ap (λ u. u ⊕ f n ⊗ x) (sum-mul n x f)
+
+  pub sum-exchange : (n k : ℕ) (f : ℕ → ℕ → F) → sum n (λ i. sum k (λ j. f i j)) ≡ sum k (λ j. sum n (λ i. f i j))
+  sum-exchange zero k f = sym (sum-zeros k (λ j. o) (λ j h. refl))
+  sum-exchange (suc n) k f =
+      ap (λ u. u ⊕ sum k (λ j. f n j)) (sum-exchange n k f) ∙ sym (sum-add k (λ j. sum n (λ i. f i j)) (λ j. f n j))
+
+  -- the first term taken out
+  pub sum-first : (n : ℕ) (f : ℕ → F) → sum (suc n) f ≡ f 0 ⊕ sum n (λ k. f (suc k))
+  sum-first zero f = r .add-comm o (f 0)
+  sum-first (suc n) f =
+      ap (λ u. u ⊕ f (suc n)) (sum-first n f) ∙ r .add-assoc (f 0) (sum n (λ k. f (suc k))) (f (suc n))
+
+  -- all terms but the one at a are zero
+  pub sum-only : (n : ℕ) (f : ℕ → F) (a : ℕ) → a < n → ((k : ℕ) → k < n → (k ≡ a → ⊥) → f k ≡ o) → sum n f ≡ f a
+  sum-only zero f a h zeros = absurd (omega arith)
+  sum-only (suc n) f a h zeros = elim (cases-eq n a) [
+    | inl here ↦ ap₂ _⊕_ (sum-zeros n f (λ k l. zeros k (omega arith) (omega arith))) (ap f here) ∙ zero-add (f a)
+    | inr there ↦
+        ap₂ _⊕_ (sum-only n f a (omega arith) (λ k l. zeros k (omega arith))) (zeros n (omega arith) there)
+        ∙ r .add-zero (f a)
+  ]
+
+  -- the term at a taken out
+  pub sum-apart : (n : ℕ) (f : ℕ → F) (a : ℕ) → a < n → sum n f ≡ sum n (λ k. cond (eqb k a) o (f k)) ⊕ f a
+  sum-apart n f a h =
+      sum-same n f (λ k. cond (eqb k a) o (f k) ⊕ cond (eqb k a) (f k) o) (λ k l. parted (eqb k a) (f k))
+      ∙ sum-add n (λ k. cond (eqb k a) o (f k)) (λ k. cond (eqb k a) (f k) o)
+      ∙ ap (λ u. sum n (λ k. cond (eqb k a) o (f k)) ⊕ u)
+      (sum-only n (λ k. cond (eqb k a) (f k) o) a h (λ k l other. cond-false (eqb k a) (f k) o (ne-eqb k a other))
+      ∙ cond-true (eqb a a) (f a) o (eq-eqb a a refl))
+    where
+      parted : (b : Bool) (x : F) → x ≡ cond b o x ⊕ cond b x o
+      parted true x = sym (zero-add x)
+      parted false x = sym (r .add-zero x)

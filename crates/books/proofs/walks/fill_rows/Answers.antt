@@ -1,0 +1,2 @@
+use Rattle.books.proofs.walks.fill_rows.Needs as need
+
