@@ -9,6 +9,7 @@ use mathlib.Core.Logic.{inl, inr}
 use Prim.Native.Nat.{ℕ, zero, suc, _+_, _≤_, _<_}
 use native.Mathlib.Nat.{zero-add}
 use native.Mathlib.Numerals.{one-add}
+use native.Mathlib.Numerals.{add-one}
 use native.Mathlib.Omega.{arith}
 use lib.Dec.{eqb}
 use Rattle.std.specs.Orderings.{Decides}
@@ -103,3 +104,13 @@ count-counted (suc n) p P each = elim (cases-bool (p n)) [
   | inl e ↦ rw (e, one-add) (counted (each n .0 e) (count-counted n p P each))
   | inr e ↦ rw (e, zero-add) (passed (not-from-decides (p n) (each n) e) (count-counted n p P each))
 ]
+
+-- one number more, that passes or that does not
+module _ (n : ℕ) (p : ℕ → Bool) (k : ℕ) (so-far : k ≡ count-below n p) where
+  pub count-more-yes : p n ≡ true → k + 1 ≡ count-below (n + 1) p
+  count-more-yes passes =
+      omega (arith, ap (λ (b : Bool). cond b 1 0 + count-below n p) (sym passes) ∙ ap (λ (i : ℕ). count-below i p) (sym (add-one n)))
+
+  pub count-more-no : p n ≡ false → k ≡ count-below (n + 1) p
+  count-more-no fails =
+      omega (arith, ap (λ (b : Bool). cond b 1 0 + count-below n p) (sym fails) ∙ ap (λ (i : ℕ). count-below i p) (sym (add-one n)))

@@ -1,6 +1,8 @@
 pub mod Chains
 pub mod Counts
 pub mod Fillings
+pub mod Openings
+pub mod Refusals
 pub mod Searches
 pub mod Squares
 pub mod Sums

@@ -3,6 +3,7 @@ pub mod book;
 pub mod cell;
 pub mod fault;
 pub mod laws;
+pub mod plain;
 mod search;
 pub mod size;
 mod square;

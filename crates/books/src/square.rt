@@ -1,16 +1,39 @@
 // The square of cells of a book: which cell is whose, and the lines that they hold.
 ghost use mathlib.Core.Path.{_≡_};
 ghost use mathlib.Core.Bool.{cond, not, _&&_};
-ghost use Prim.Native.Nat.{_+_, _*_, _<_};
+ghost use mathlib.Core.List.{_++_};
+ghost use Prim.Native.Nat.{_+_, _*_, _≤_, _<_};
 ghost use lib.Dec.{ltb};
-ghost use lib.ListN.{length};
+ghost use lib.ListN.{length, drop, replicate};
 ghost use Rattle.std.specs.declared.result.Result.the-variants.{Ok, Err};
-ghost use Rattle.books.specs.Calls.{refuse};
-ghost use Rattle.books.specs.Cells.{Square, cells-meaning, relined, with-total};
+ghost use Rattle.books.specs.Calls.{refuse, opened-size};
+ghost use Rattle.books.specs.Cells.{Square, cells-meaning, relined, with-total, blank-cell};
 ghost use Rattle.books.specs.declared.fault.BookFault.the-variants.{NoBlock};
 use crate::cell::Cell;
 use crate::fault::BookFault;
+use crate::size::check_size;
 use factors::factor::Factor;
+
+/// The size of a book that is opened: the size asked for, or 0 where it is refused.
+pub(crate) fn openable_size(size: usize, cells: usize) -> usize
+    ensures { λ r. ⌜ r ≡ opened-size size cells ⌝ }
+{
+    match check_size(size, cells) {
+        Ok(()) => size,
+        Err(_) => 0,
+    }
+}
+
+/// Makes the first `count` cells blank.
+pub(crate) fn blank_cells<F: Factor>(cells: &mut [Cell<F>], count: usize)
+    requires { ⌜ count ≤ length (now cells) ⌝ }
+    ensures { λ _. ⌜ now (cells .exit) ≡ replicate count (blank-cell (F·Factor .ring .ops .zero)) ++ drop count (now (cells .entry)) ⌝ }
+{
+    let blank = Cell::blank();
+    for k in 0..count {
+        cells[k] = blank;
+    }
+}
 
 /// Refuses a pair of which one is no block of a book of `n` blocks.
 pub(crate) fn check_pair(n: usize, a: usize, b: usize) -> Result<(), BookFault>

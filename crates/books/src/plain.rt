@@ -1,0 +1,230 @@
+// The plain book: it keeps its lines and works every answer out from them.
+ghost use mathlib.Core.Path.{_≡_};
+ghost use mathlib.Core.Bool.{_&&_};
+ghost use denote.Ref.{now};
+ghost use Prim.Native.Nat.{_+_, _*_, _<_, _≤_};
+ghost use lib.ListN.{length};
+ghost use Rattle.std.specs.declared.option.Option.the-variants.{Some, None};
+ghost use Rattle.books.specs.Graph.{Circleless, support, no-lines};
+ghost use Rattle.books.specs.Calls.{opened-size, granted, entering, entered, striking, struck, factoring, reaching, supporting, needing, totalling};
+ghost use Rattle.books.specs.Cells.{Square, Scratched, PlainSound, cells-meaning, relined, opened-cells};
+use crate::book::Book;
+use crate::cell::Cell;
+use crate::fault::BookFault;
+use crate::search::search;
+use crate::square::blank_cells;
+use crate::square::check_pair;
+use crate::square::line_at;
+use crate::square::openable_size;
+use crate::square::set_line;
+use crate::walks::total_of;
+use factors::factor::Factor;
+
+/// A book that keeps its lines in cells that the caller lends, and nothing else that lasts.
+#[derive(Drop)]
+pub struct PlainBook<'a, F> {
+    cells: &'a mut [Cell<F>],
+    size: usize,
+}
+
+impl<'a, F: Factor> PlainBook<'a, F> {
+    /// A book of `size` blocks without lines, or of size 0 where `check_size` refuses.
+    pub fn open(cells: &'a mut [Cell<F>], size: usize) -> Self
+        ensures sized { λ r. ⌜ r .size ≡ opened-size size (length (now (cells .entry))) ⌝ }
+        ensures blanks { λ r. ⌜ now (r .cells) ≡ opened-cells (F·Factor .ring .ops .zero) (r .size) (now (cells .entry)) ⌝ }
+        ensures leaves { λ r. ⌜ cells-meaning (r .size) (now (r .cells)) ≡ no-lines (r .size) ⌝ }
+        ensures keeps { λ r. ⌜ PlainSound (F·Factor .ring .ops .zero) (r .size) (now (r .cells)) ⌝ }
+    {
+        let size = openable_size(size, cells.len());
+        blank_cells(cells, size * size);
+        PlainBook { cells, size }
+    }
+}
+
+/// How many lines end at `b` whose upper block `a` reaches.
+fn count_support<F: Factor>(cells: &[Cell<F>], n: usize, a: usize, b: usize) -> u16
+    requires square { ⌜ Square n (now cells) ⌝ }
+    requires circleless { ⌜ Circleless (cells-meaning n (now cells)) ⌝ }
+    requires upper { ⌜ a < n ⌝ }
+    requires lower { ⌜ b < n ⌝ }
+    ensures { λ r. ⌜ r ≡ support (cells-meaning n (now (cells .entry))) a b ⌝ }
+{
+    let reached = search(cells, n, a);
+    let mut count = 0;
+    for l in 0..n {
+        if line_at(cells, n, l, b).is_some() && reached[l] {
+            count += 1;
+        }
+    }
+    count
+}
+
+fn enter_in<F: Factor>(cells: &mut [Cell<F>], n: usize, a: usize, b: usize, factor: F) -> Result<(), BookFault>
+    requires { ⌜ PlainSound (F·Factor .ring .ops .zero) n (now cells) ⌝ }
+    ensures answers { λ r. ⌜ r ≡ entering (cells-meaning n (now (cells .entry))) a b ⌝ }
+    ensures rewrites { λ r. ⌜ now (cells .exit) ≡ granted r (relined (F·Factor .ring .ops .zero) (now (cells .entry)) (a * n + b) (Some factor)) (now (cells .entry)) ⌝ }
+{
+    check_pair(n, a, b)?;
+    if a == b {
+        return Err(BookFault::SameBlock);
+    }
+    if line_at(cells, n, a, b).is_some() {
+        return Err(BookFault::LineStands);
+    }
+    if search(cells, n, b)[a] {
+        return Err(BookFault::Circle);
+    }
+    set_line(cells, n, a, b, Some(factor));
+    Ok(())
+}
+
+fn strike_in<F: Factor>(cells: &mut [Cell<F>], n: usize, a: usize, b: usize) -> Result<(), BookFault>
+    requires { ⌜ PlainSound (F·Factor .ring .ops .zero) n (now cells) ⌝ }
+    ensures answers { λ r. ⌜ r ≡ striking (cells-meaning n (now (cells .entry))) a b ⌝ }
+    ensures rewrites { λ r. ⌜ now (cells .exit) ≡ granted r (relined (F·Factor .ring .ops .zero) (now (cells .entry)) (a * n + b) None) (now (cells .entry)) ⌝ }
+{
+    check_pair(n, a, b)?;
+    if line_at(cells, n, a, b).is_none() {
+        return Err(BookFault::NoLine);
+    }
+    set_line(cells, n, a, b, None);
+    Ok(())
+}
+
+fn factor_in<F: Factor>(cells: &mut [Cell<F>], n: usize, a: usize, b: usize) -> Result<F, BookFault>
+    requires { ⌜ PlainSound (F·Factor .ring .ops .zero) n (now cells) ⌝ }
+    ensures answers { λ r. ⌜ r ≡ factoring (cells-meaning n (now (cells .entry))) a b ⌝ }
+    ensures same { λ _. ⌜ now (cells .exit) ≡ now (cells .entry) ⌝ }
+{
+    check_pair(n, a, b)?;
+    match line_at(cells, n, a, b) {
+        Some(factor) => Ok(factor),
+        None => Err(BookFault::NoLine),
+    }
+}
+
+fn reach_in<F: Factor>(cells: &mut [Cell<F>], n: usize, a: usize, b: usize) -> Result<bool, BookFault>
+    requires { ⌜ PlainSound (F·Factor .ring .ops .zero) n (now cells) ⌝ }
+    ensures answers { λ r. ⌜ r ≡ reaching (cells-meaning n (now (cells .entry))) a b ⌝ }
+    ensures same { λ _. ⌜ now (cells .exit) ≡ now (cells .entry) ⌝ }
+{
+    check_pair(n, a, b)?;
+    Ok(search(cells, n, a)[b])
+}
+
+fn support_in<F: Factor>(cells: &mut [Cell<F>], n: usize, a: usize, b: usize) -> Result<u16, BookFault>
+    requires { ⌜ PlainSound (F·Factor .ring .ops .zero) n (now cells) ⌝ }
+    ensures answers { λ r. ⌜ r ≡ supporting (cells-meaning n (now (cells .entry))) a b ⌝ }
+    ensures same { λ _. ⌜ now (cells .exit) ≡ now (cells .entry) ⌝ }
+{
+    check_pair(n, a, b)?;
+    Ok(count_support(cells, n, a, b))
+}
+
+fn need_in<F: Factor>(cells: &mut [Cell<F>], n: usize, a: usize, b: usize) -> Result<bool, BookFault>
+    requires { ⌜ PlainSound (F·Factor .ring .ops .zero) n (now cells) ⌝ }
+    ensures answers { λ r. ⌜ r ≡ needing (cells-meaning n (now (cells .entry))) a b ⌝ }
+    ensures same { λ _. ⌜ now (cells .exit) ≡ now (cells .entry) ⌝ }
+{
+    check_pair(n, a, b)?;
+    if line_at(cells, n, a, b).is_none() {
+        return Err(BookFault::NoLine);
+    }
+    Ok(count_support(cells, n, a, b) == 1)
+}
+
+fn total_in<F: Factor>(cells: &mut [Cell<F>], n: usize, a: usize, b: usize) -> Result<F, BookFault>
+    requires { ⌜ PlainSound (F·Factor .ring .ops .zero) n (now cells) ⌝ }
+    ensures answers { λ r. ⌜ r ≡ totalling (cells-meaning n (now (cells .entry))) a b (F·Factor .ring .ops) ⌝ }
+    ensures scratched { λ _. ⌜ Scratched n (now (cells .entry)) (now (cells .exit)) ⌝ }
+{
+    check_pair(n, a, b)?;
+    Ok(total_of(cells, n, a, b))
+}
+
+pub impl<F: Factor> Book for PlainBook<'_, F> as PlainBookBook {
+    type Kind = F;
+
+    ghost meaning = { λ s. cells-meaning (s .size) (now (s .cells)) };
+
+    ghost sound = { λ s. PlainSound (F·Factor .ring .ops .zero) (s .size) (now (s .cells)) };
+
+    fn size(&mut self) -> usize
+        ensures answers { λ r. ⌜ r ≡ meaning (now (self .entry)) .size ⌝ }
+        ensures leaves { λ _. ⌜ meaning (now (self .exit)) ≡ meaning (now (self .entry)) ⌝ }
+        ensures keeps { λ _. ⌜ sound (now (self .exit)) ⌝ }
+        ensures same { λ _. ⌜ now (now (self .exit) .cells) ≡ now (now (self .entry) .cells) ⌝ }
+    {
+        self.size
+    }
+
+    fn enter(&mut self, a: usize, b: usize, factor: F) -> Result<(), BookFault>
+        ensures answers { λ r. ⌜ r ≡ entering (meaning (now (self .entry))) a b ⌝ }
+        ensures leaves { λ _. ⌜ meaning (now (self .exit)) ≡ entered (meaning (now (self .entry))) a b factor ⌝ }
+        ensures keeps { λ _. ⌜ sound (now (self .exit)) ⌝ }
+        ensures rewrites { λ r. ⌜ now (now (self .exit) .cells) ≡ granted r (relined (F·Factor .ring .ops .zero) (now (now (self .entry) .cells)) (a * now (self .entry) .size + b) (Some factor)) (now (now (self .entry) .cells)) ⌝ }
+    {
+        let n = self.size;
+        enter_in(self.cells, n, a, b, factor)
+    }
+
+    fn strike(&mut self, a: usize, b: usize) -> Result<(), BookFault>
+        ensures answers { λ r. ⌜ r ≡ striking (meaning (now (self .entry))) a b ⌝ }
+        ensures leaves { λ _. ⌜ meaning (now (self .exit)) ≡ struck (meaning (now (self .entry))) a b ⌝ }
+        ensures keeps { λ _. ⌜ sound (now (self .exit)) ⌝ }
+        ensures rewrites { λ r. ⌜ now (now (self .exit) .cells) ≡ granted r (relined (F·Factor .ring .ops .zero) (now (now (self .entry) .cells)) (a * now (self .entry) .size + b) None) (now (now (self .entry) .cells)) ⌝ }
+    {
+        let n = self.size;
+        strike_in(self.cells, n, a, b)
+    }
+
+    fn factor(&mut self, a: usize, b: usize) -> Result<F, BookFault>
+        ensures answers { λ r. ⌜ r ≡ factoring (meaning (now (self .entry))) a b ⌝ }
+        ensures leaves { λ _. ⌜ meaning (now (self .exit)) ≡ meaning (now (self .entry)) ⌝ }
+        ensures keeps { λ _. ⌜ sound (now (self .exit)) ⌝ }
+        ensures same { λ _. ⌜ now (now (self .exit) .cells) ≡ now (now (self .entry) .cells) ⌝ }
+    {
+        let n = self.size;
+        factor_in(self.cells, n, a, b)
+    }
+
+    fn reach(&mut self, a: usize, b: usize) -> Result<bool, BookFault>
+        ensures answers { λ r. ⌜ r ≡ reaching (meaning (now (self .entry))) a b ⌝ }
+        ensures leaves { λ _. ⌜ meaning (now (self .exit)) ≡ meaning (now (self .entry)) ⌝ }
+        ensures keeps { λ _. ⌜ sound (now (self .exit)) ⌝ }
+        ensures same { λ _. ⌜ now (now (self .exit) .cells) ≡ now (now (self .entry) .cells) ⌝ }
+    {
+        let n = self.size;
+        reach_in(self.cells, n, a, b)
+    }
+
+    fn support(&mut self, a: usize, b: usize) -> Result<u16, BookFault>
+        ensures answers { λ r. ⌜ r ≡ supporting (meaning (now (self .entry))) a b ⌝ }
+        ensures leaves { λ _. ⌜ meaning (now (self .exit)) ≡ meaning (now (self .entry)) ⌝ }
+        ensures keeps { λ _. ⌜ sound (now (self .exit)) ⌝ }
+        ensures same { λ _. ⌜ now (now (self .exit) .cells) ≡ now (now (self .entry) .cells) ⌝ }
+    {
+        let n = self.size;
+        support_in(self.cells, n, a, b)
+    }
+
+    fn need(&mut self, a: usize, b: usize) -> Result<bool, BookFault>
+        ensures answers { λ r. ⌜ r ≡ needing (meaning (now (self .entry))) a b ⌝ }
+        ensures leaves { λ _. ⌜ meaning (now (self .exit)) ≡ meaning (now (self .entry)) ⌝ }
+        ensures keeps { λ _. ⌜ sound (now (self .exit)) ⌝ }
+        ensures same { λ _. ⌜ now (now (self .exit) .cells) ≡ now (now (self .entry) .cells) ⌝ }
+    {
+        let n = self.size;
+        need_in(self.cells, n, a, b)
+    }
+
+    fn total(&mut self, a: usize, b: usize) -> Result<F, BookFault>
+        ensures answers { λ r. ⌜ r ≡ totalling (meaning (now (self .entry))) a b (F·Factor .ring .ops) ⌝ }
+        ensures leaves { λ _. ⌜ meaning (now (self .exit)) ≡ meaning (now (self .entry)) ⌝ }
+        ensures keeps { λ _. ⌜ sound (now (self .exit)) ⌝ }
+        ensures scratched { λ _. ⌜ Scratched (now (self .entry) .size) (now (now (self .entry) .cells)) (now (now (self .exit) .cells)) ⌝ }
+    {
+        let n = self.size;
+        total_in(self.cells, n, a, b)
+    }
+}
