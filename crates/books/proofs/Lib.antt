@@ -1,4 +1,5 @@
 pub mod Chains
+pub mod Changes
 pub mod Counts
 pub mod Fillings
 pub mod Openings

@@ -101,3 +101,23 @@ module _ {F : Type 0} (m : Meaning F) (a b : ℕ) where
     pub totalling-inside : (r : Operations F) (x : F) → x ≡ total r m a b → Ok x ≡ totalling m a b r
     unfolding totalling
     totalling-inside r x value = ap Ok value ∙ passed _ _ _ inside
+
+-- a refusal that did not come
+pub not-refused : {X E : Type 0} (t : Bool) (fault : E) (rest : Result X E) (x : X) → refuse t fault rest ≡ Ok x → (t ≡ false) × (rest ≡ Ok x)
+not-refused true fault rest x same = let z : _≡_ {A = ℕ} 0 1 = cc in absurd (omega arith)
+not-refused false fault rest x same = (refl, same)
+
+module _ {F : Type 0} (m : Meaning F) (a b : ℕ) (u : Unit {0}) where
+  -- a line that may be entered joins two blocks, and the lower one does not reach the upper one
+  pub may-enter : entering m a b ≡ Ok u → (a < m .size) × (b < m .size) × (reaches m b a ≡ false)
+  unfolding entering
+  may-enter grants =
+      let (inside, from-blocks) = not-refused (outside m a b) NoBlock _ u grants in
+      let (apart, from-pair) = not-refused (eqb a b) SameBlock _ u from-blocks in
+      let (none, from-line) = not-refused (stands m a b) LineStands _ u from-pair in
+      let (upper, lower) = both-blocks (m .size) a b inside in
+      (upper, lower, not-refused (reaches m b a) Circle _ u from-line .0)
+
+  pub may-strike : striking m a b ≡ Ok u → (a < m .size) × (b < m .size)
+  unfolding striking
+  may-strike grants = both-blocks (m .size) a b (not-refused (outside m a b) NoBlock _ u grants .0)

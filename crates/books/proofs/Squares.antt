@@ -8,11 +8,9 @@ use lib.Dec.{ltb}
 use lib.ListN.{length, getD}
 use Rattle.std.proofs.shelf.Bits.{mul-add-lt, div-mul-add, mod-mul-add}
 use Rattle.std.proofs.shelf.Lists.{getD-map}
-use Rattle.std.proofs.shelf.Tests.{cond-true, and-from, and-parts, lt-ltb, ltb-true}
-use Rattle.std.specs.Options.{isSome}
+use Rattle.std.proofs.shelf.Tests.{cond-true, and-from, lt-ltb}
 use Rattle.std.specs.declared.option.Option.{Option}
 use Rattle.std.specs.declared.option.Option.the-variants.{Some, None}
-use Rattle.books.specs.Graph.{Bounded}
 use Rattle.books.specs.Cells.{Square, cell-line, lines, lines-meaning, cells-meaning}
 use Rattle.factors.specs.Ring.{Operations}
 use Rattle.books.specs.Walks.{noted-total}
@@ -38,16 +36,6 @@ module _ {F : Type 0} (n : ℕ) (cells : List (Cell F)) (square : Square n cells
       ap cell-line (read ∙ ap (λ (i : ℕ). getD cells i c) at)
       ∙ sym (getD-map cell-line cells (a * n + b) c None place-within)
       ∙ sym line-noted
-
--- lines stand only between blocks
-pub cells-bounded : {F : Type 0} (n : ℕ) (cells : List (Cell F)) → Bounded (cells-meaning n cells)
-cells-bounded n cells a b line =
-    let (upper, lower) = and-parts _ _ (some-inside (ltb a n && ltb b n) (getD (lines cells) (a * n + b) None) line) in
-    (ltb-true a n upper, ltb-true b n lower)
-  where
-    some-inside : {X : Type 0} (t : Bool) (o : Option X) → isSome (cond t o None) ≡ true → t ≡ true
-    some-inside true o e = refl
-    some-inside false o e = e
 
 module _ {F : Type 0} (n : ℕ) (cells : List (Cell F)) (square : Square n cells) (a b : ℕ) (upper : a < n) (lower : b < n) where
   pub total-read : (r : Operations F) (k : ℕ) (d : Cell F) → k ≡ a * n + b → getD cells k d .total ≡ noted-total r n cells a b

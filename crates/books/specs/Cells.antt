@@ -3,22 +3,25 @@
 --   cell-line        the line that a cell holds
 --   lines, factors, totals   one field of each cell of a list
 --   cells-meaning    the book that the first n × n cells hold
+--   cells-bounded    its lines go only between blocks
 --   Square           there is a cell for each pair of blocks
 --   PlainSound       the condition of a plain book
 --   with-cell-line, relined   a cell, and the cells, with one line set anew
 --   with-total       the cells with one total set anew
 --   Scratched        only working space of the square has changed
 --   opened-cells     the cells of a new book
-use mathlib.Core.Path.{_≡_}
-use mathlib.Core.Bool.{true, false, cond, _&&_}
+use mathlib.Core.Path.{_≡_, refl}
+use mathlib.Core.Bool.{Bool, true, false, cond, _&&_}
 use mathlib.Core.List.{List, map, _++_}
 use Prim.Native.Nat.{ℕ, _+_, _*_, _≤_, _<_}
 use lib.Dec.{ltb}
 use lib.ListN.{length, getD, set, drop, replicate}
+use Rattle.std.specs.Options.{isSome}
+use Rattle.std.proofs.shelf.Tests.{and-parts, ltb-true}
 use Rattle.std.specs.declared.option.Option.{Option}
 use Rattle.std.specs.declared.option.Option.the-variants.{Some, None}
 use Rattle.factors.specs.Ring.{Operations}
-use Rattle.books.specs.Graph.{Meaning, Circleless}
+use Rattle.books.specs.Graph.{Meaning, Bounded, Circleless}
 use Rattle.books.specs.declared.cell.Cell.{Cell}
 
 -- no line, factor and total zero, support number 0
@@ -44,6 +47,16 @@ lines-meaning n ls = record { size = n; line = λ a b. cond (ltb a n && ltb b n)
 
 abbrev pub cells-meaning : {F : Type 0} → ℕ → List (Cell F) → Meaning F
 cells-meaning n cells = lines-meaning n (lines cells)
+
+-- lines stand only between blocks
+pub cells-bounded : {F : Type 0} (n : ℕ) (cells : List (Cell F)) → Bounded (cells-meaning n cells)
+cells-bounded n cells a b line =
+    let (upper, lower) = and-parts _ _ (some-inside (ltb a n && ltb b n) (getD (lines cells) (a * n + b) None) line) in
+    (ltb-true a n upper, ltb-true b n lower)
+  where
+    some-inside : {X : Type 0} (t : Bool) (o : Option X) → isSome (cond t o None) ≡ true → t ≡ true
+    some-inside true o e = refl
+    some-inside false o e = e
 
 -- the size is one that a book can have, and each pair of blocks has a cell
 pub record Square {F : Type 0} (n : ℕ) (cells : List (Cell F)) : Type 0 where

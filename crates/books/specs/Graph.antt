@@ -5,10 +5,11 @@
 --   Chain       a list of lines, each starting where the one before ends
 --   Reaches     a chain goes from one block to another
 --   Circleless  no chain of one line or more leads back to its start
+--   Lawful      the laws of every book
 --   reaches, support, needed, walks, total   what the queries answer, worked out from the lines
 use mathlib.Core.Path.{_≡_}
 use mathlib.Core.Bool.{Bool, true, false, cond, not, _&&_, _||_}
-use Prim.Native.Nat.{ℕ, zero, suc, _+_, _<_}
+use Prim.Native.Nat.{ℕ, zero, suc, _+_, _≤_, _<_}
 use lib.Dec.{eqb}
 use Rattle.std.specs.Options.{isSome}
 use Rattle.std.specs.declared.option.Option.{Option}
@@ -49,6 +50,12 @@ Reaches m a b = (k : ℕ) × Chain m k a b
 -- no circle: no chain, not empty, goes from a block to itself
 abbrev pub Circleless : {F : Type 0} → Meaning F → Type 0
 Circleless m = (k a : ℕ) → Chain m (suc k) a a → ⊥
+
+-- the laws of every book: at most 64 blocks, lines only between blocks, no circle
+pub record Lawful {F : Type 0} (m : Meaning F) : Type 0 where
+  pub small : m .size ≤ 64
+  pub bounded : Bounded m
+  pub acyclic : Circleless m
 
 -- some number below n passes the test
 abbrev pub any-below : ℕ → (ℕ → Bool) → Bool

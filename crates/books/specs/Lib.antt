@@ -2,4 +2,5 @@ pub mod Calls
 pub mod Cells
 pub mod Graph
 pub mod Laws
+pub mod Plain
 pub mod Walks

@@ -1,13 +1,12 @@
 // The plain book: it keeps its lines and works every answer out from them.
 ghost use mathlib.Core.Path.{_≡_};
-ghost use mathlib.Core.Bool.{_&&_};
-ghost use denote.Ref.{now};
-ghost use Prim.Native.Nat.{_+_, _*_, _<_, _≤_};
+ghost use Prim.Native.Nat.{_+_, _*_, _<_};
 ghost use lib.ListN.{length};
 ghost use Rattle.std.specs.declared.option.Option.the-variants.{Some, None};
 ghost use Rattle.books.specs.Graph.{Circleless, support, no-lines};
 ghost use Rattle.books.specs.Calls.{opened-size, granted, entering, entered, striking, struck, factoring, reaching, supporting, needing, totalling};
 ghost use Rattle.books.specs.Cells.{Square, Scratched, PlainSound, cells-meaning, relined, opened-cells};
+ghost use Rattle.books.specs.Plain.{held, plain-meaning, plain-sound, plain-alters, plain-lawful};
 use crate::book::Book;
 use crate::cell::Cell;
 use crate::fault::BookFault;
@@ -31,9 +30,9 @@ impl<'a, F: Factor> PlainBook<'a, F> {
     /// A book of `size` blocks without lines, or of size 0 where `check_size` refuses.
     pub fn open(cells: &'a mut [Cell<F>], size: usize) -> Self
         ensures sized { λ r. ⌜ r .size ≡ opened-size size (length (now (cells .entry))) ⌝ }
-        ensures blanks { λ r. ⌜ now (r .cells) ≡ opened-cells (F·Factor .ring .ops .zero) (r .size) (now (cells .entry)) ⌝ }
-        ensures leaves { λ r. ⌜ cells-meaning (r .size) (now (r .cells)) ≡ no-lines (r .size) ⌝ }
-        ensures keeps { λ r. ⌜ PlainSound (F·Factor .ring .ops .zero) (r .size) (now (r .cells)) ⌝ }
+        ensures blanks { λ r. ⌜ held r ≡ opened-cells (F·Factor .ring .ops .zero) (r .size) (now (cells .entry)) ⌝ }
+        ensures leaves { λ r. ⌜ plain-meaning r ≡ no-lines (r .size) ⌝ }
+        ensures keeps { λ r. ⌜ plain-sound (F·Factor .ring .ops .zero) r ⌝ }
     {
         let size = openable_size(size, cells.len());
         blank_cells(cells, size * size);
@@ -145,85 +144,49 @@ fn total_in<F: Factor>(cells: &mut [Cell<F>], n: usize, a: usize, b: usize) -> R
 pub impl<F: Factor> Book for PlainBook<'_, F> as PlainBookBook {
     type Kind = F;
 
-    ghost meaning = { λ s. cells-meaning (s .size) (now (s .cells)) };
+    ghost meaning = { plain-meaning };
 
-    ghost sound = { λ s. PlainSound (F·Factor .ring .ops .zero) (s .size) (now (s .cells)) };
+    ghost sound = { plain-sound (F·Factor .ring .ops .zero) };
 
-    fn size(&mut self) -> usize
-        ensures answers { λ r. ⌜ r ≡ meaning (now (self .entry)) .size ⌝ }
-        ensures leaves { λ _. ⌜ meaning (now (self .exit)) ≡ meaning (now (self .entry)) ⌝ }
-        ensures keeps { λ _. ⌜ sound (now (self .exit)) ⌝ }
-        ensures same { λ _. ⌜ now (now (self .exit) .cells) ≡ now (now (self .entry) .cells) ⌝ }
-    {
+    ghost alters = { plain-alters };
+
+    ghost lawful = { plain-lawful (F·Factor .ring .ops .zero) };
+
+    fn size(&mut self) -> usize {
         self.size
     }
 
-    fn enter(&mut self, a: usize, b: usize, factor: F) -> Result<(), BookFault>
-        ensures answers { λ r. ⌜ r ≡ entering (meaning (now (self .entry))) a b ⌝ }
-        ensures leaves { λ _. ⌜ meaning (now (self .exit)) ≡ entered (meaning (now (self .entry))) a b factor ⌝ }
-        ensures keeps { λ _. ⌜ sound (now (self .exit)) ⌝ }
-        ensures rewrites { λ r. ⌜ now (now (self .exit) .cells) ≡ granted r (relined (F·Factor .ring .ops .zero) (now (now (self .entry) .cells)) (a * now (self .entry) .size + b) (Some factor)) (now (now (self .entry) .cells)) ⌝ }
-    {
+    fn enter(&mut self, a: usize, b: usize, factor: F) -> Result<(), BookFault> {
         let n = self.size;
         enter_in(self.cells, n, a, b, factor)
     }
 
-    fn strike(&mut self, a: usize, b: usize) -> Result<(), BookFault>
-        ensures answers { λ r. ⌜ r ≡ striking (meaning (now (self .entry))) a b ⌝ }
-        ensures leaves { λ _. ⌜ meaning (now (self .exit)) ≡ struck (meaning (now (self .entry))) a b ⌝ }
-        ensures keeps { λ _. ⌜ sound (now (self .exit)) ⌝ }
-        ensures rewrites { λ r. ⌜ now (now (self .exit) .cells) ≡ granted r (relined (F·Factor .ring .ops .zero) (now (now (self .entry) .cells)) (a * now (self .entry) .size + b) None) (now (now (self .entry) .cells)) ⌝ }
-    {
+    fn strike(&mut self, a: usize, b: usize) -> Result<(), BookFault> {
         let n = self.size;
         strike_in(self.cells, n, a, b)
     }
 
-    fn factor(&mut self, a: usize, b: usize) -> Result<F, BookFault>
-        ensures answers { λ r. ⌜ r ≡ factoring (meaning (now (self .entry))) a b ⌝ }
-        ensures leaves { λ _. ⌜ meaning (now (self .exit)) ≡ meaning (now (self .entry)) ⌝ }
-        ensures keeps { λ _. ⌜ sound (now (self .exit)) ⌝ }
-        ensures same { λ _. ⌜ now (now (self .exit) .cells) ≡ now (now (self .entry) .cells) ⌝ }
-    {
+    fn factor(&mut self, a: usize, b: usize) -> Result<F, BookFault> {
         let n = self.size;
         factor_in(self.cells, n, a, b)
     }
 
-    fn reach(&mut self, a: usize, b: usize) -> Result<bool, BookFault>
-        ensures answers { λ r. ⌜ r ≡ reaching (meaning (now (self .entry))) a b ⌝ }
-        ensures leaves { λ _. ⌜ meaning (now (self .exit)) ≡ meaning (now (self .entry)) ⌝ }
-        ensures keeps { λ _. ⌜ sound (now (self .exit)) ⌝ }
-        ensures same { λ _. ⌜ now (now (self .exit) .cells) ≡ now (now (self .entry) .cells) ⌝ }
-    {
+    fn reach(&mut self, a: usize, b: usize) -> Result<bool, BookFault> {
         let n = self.size;
         reach_in(self.cells, n, a, b)
     }
 
-    fn support(&mut self, a: usize, b: usize) -> Result<u16, BookFault>
-        ensures answers { λ r. ⌜ r ≡ supporting (meaning (now (self .entry))) a b ⌝ }
-        ensures leaves { λ _. ⌜ meaning (now (self .exit)) ≡ meaning (now (self .entry)) ⌝ }
-        ensures keeps { λ _. ⌜ sound (now (self .exit)) ⌝ }
-        ensures same { λ _. ⌜ now (now (self .exit) .cells) ≡ now (now (self .entry) .cells) ⌝ }
-    {
+    fn support(&mut self, a: usize, b: usize) -> Result<u16, BookFault> {
         let n = self.size;
         support_in(self.cells, n, a, b)
     }
 
-    fn need(&mut self, a: usize, b: usize) -> Result<bool, BookFault>
-        ensures answers { λ r. ⌜ r ≡ needing (meaning (now (self .entry))) a b ⌝ }
-        ensures leaves { λ _. ⌜ meaning (now (self .exit)) ≡ meaning (now (self .entry)) ⌝ }
-        ensures keeps { λ _. ⌜ sound (now (self .exit)) ⌝ }
-        ensures same { λ _. ⌜ now (now (self .exit) .cells) ≡ now (now (self .entry) .cells) ⌝ }
-    {
+    fn need(&mut self, a: usize, b: usize) -> Result<bool, BookFault> {
         let n = self.size;
         need_in(self.cells, n, a, b)
     }
 
-    fn total(&mut self, a: usize, b: usize) -> Result<F, BookFault>
-        ensures answers { λ r. ⌜ r ≡ totalling (meaning (now (self .entry))) a b (F·Factor .ring .ops) ⌝ }
-        ensures leaves { λ _. ⌜ meaning (now (self .exit)) ≡ meaning (now (self .entry)) ⌝ }
-        ensures keeps { λ _. ⌜ sound (now (self .exit)) ⌝ }
-        ensures scratched { λ _. ⌜ Scratched (now (self .entry) .size) (now (now (self .entry) .cells)) (now (now (self .exit) .cells)) ⌝ }
-    {
+    fn total(&mut self, a: usize, b: usize) -> Result<F, BookFault> {
         let n = self.size;
         total_in(self.cells, n, a, b)
     }

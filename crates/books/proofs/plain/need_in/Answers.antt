@@ -7,7 +7,7 @@ use Rattle.books.specs.Calls.{needing}
 use Rattle.books.specs.Cells.{cells-meaning}
 use Rattle.books.proofs.Chains.{needed-is-support-one}
 use Rattle.books.proofs.Refusals.{refused-outside, check-passed, both-blocks, needing-none, needing-inside}
-use Rattle.books.proofs.Squares.{cells-bounded}
+use Rattle.books.specs.Cells.{cells-bounded}
 use Rattle.books.proofs.plain.need_in.Needs as need
 
 pub returns-in-Break-check-pair : need.returns-in-Break-check-pair

@@ -6,7 +6,7 @@ use mathlib.Core.Bool.{true}
 use Rattle.books.specs.Graph.{Meaning}
 use Rattle.books.specs.Cells.{cells-meaning}
 use Rattle.books.proofs.Searches.{Searched, search-starts, search-visits, search-falls, search-ends}
-use Rattle.books.proofs.Squares.{cells-bounded}
+use Rattle.books.specs.Cells.{cells-bounded}
 use Rattle.books.proofs.search.search.Needs as need
 
 pub loop-l-holds : need.loop-l-holds
