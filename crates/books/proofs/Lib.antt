@@ -7,4 +7,5 @@ pub mod Refusals
 pub mod Searches
 pub mod Squares
 pub mod Sums
+pub mod Tables
 pub mod Totals

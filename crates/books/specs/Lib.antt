@@ -4,3 +4,4 @@ pub mod Graph
 pub mod Laws
 pub mod Plain
 pub mod Walks
+pub mod Worked

@@ -1,6 +1,7 @@
 // Books of lines between blocks: what a book is, and its implementations over cells that the caller lends.
 pub mod book;
 pub mod cell;
+pub mod examples;
 pub mod fault;
 pub mod laws;
 pub mod plain;
