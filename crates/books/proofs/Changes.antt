@@ -70,8 +70,8 @@ module _ {F : Type 0} (zero : F) (n : ℕ) (cells : List (Cell F)) (room : n * n
       at i j false other true ranged =
           let (_, below) = and-parts (ltb i n) (ltb j n) ranged in
           let apart : i * n + j ≡ a * n + b → ⊥ = λ same.
-              let (upper-is, lower-is) = place-apart n i j a b (ltb-true j n below) lower same in
-              false≢true (sym other ∙ and-from _ _ (eq-eqb i a upper-is) (eq-eqb j b lower-is)) in
+          let (upper-is, lower-is) = place-apart n i j a b (ltb-true j n below) lower same in
+          false≢true (sym other ∙ and-from _ _ (eq-eqb i a upper-is) (eq-eqb j b lower-is)) in
           ap (λ ls. placed n ls i j) relined-lines
           ∙ ap (λ l. cond (ltb i n && ltb j n) l None) (getD-set-other (lines cells) (a * n + b) (i * n + j) o None apart)
           ∙ sym (cond-false _ _ _ other)
@@ -135,9 +135,9 @@ module _ {F : Type 0} (zero : F) (n : ℕ) (cells after : List (Cell F)) (sound 
   enter-holds f r =
       change-holds (Some f) r (entering (cells-meaning n cells) a b)
       (λ u grants.
-          let m = cells-meaning n cells in
-          let (upper, lower, free) = may-enter m a b u grants in
-          (upper, lower, enter-circleless m a b (Some f) (cells-bounded n cells) (sound .circleless) free))
+      let m = cells-meaning n cells in
+      let (upper, lower, free) = may-enter m a b u grants in
+      (upper, lower, enter-circleless m a b (Some f) (cells-bounded n cells) (sound .circleless) free))
 
   pub strike-holds : (r : Result (Unit {0}) BookFault)
       → r ≡ striking (cells-meaning n cells) a b → after ≡ granted r (relined zero cells (a * n + b) None) cells
@@ -146,6 +146,6 @@ module _ {F : Type 0} (zero : F) (n : ℕ) (cells after : List (Cell F)) (sound 
   strike-holds r =
       change-holds None r (striking (cells-meaning n cells) a b)
       (λ u grants.
-          let m = cells-meaning n cells in
-          let (upper, lower) = may-strike m a b u grants in
-          (upper, lower, strike-circleless m a b (sound .circleless)))
+      let m = cells-meaning n cells in
+      let (upper, lower) = may-strike m a b u grants in
+      (upper, lower, strike-circleless m a b (sound .circleless)))

@@ -67,6 +67,7 @@ module _ {F : Type 0} (ring : Ring F) (n : ℕ) (b : ℕ) where
     where
       next : suc (k - 1) ≡ k
       next = omega arith
+
       before : (c : ℕ) → c < n → (k - 1) * n + c < k * n
       before c below = let row : k * n ≡ (k - 1) * n + n = ap (λ (j : ℕ). j * n) (sym next) ∙ suc-mul (k - 1) n in omega arith
 

@@ -93,9 +93,10 @@ or-false false y e = sym e
 
 module _ (before : List Bool) (p : ℕ → Bool) (i : ℕ) (now : List Bool) (marked : Marked before p i now) where
   pub marked-yes : i < length now → p i ≡ true → Marked before p (i + 1) (set now i true)
-  marked-yes within passes =
-      ((λ k below. ⊎-elim (here k) (λ ne. getD-set-other now i k true false ne ∙ marked .0 k (omega arith)) (cases-eq k i))
-      , (λ k above. getD-set-other now i k true false (omega arith) ∙ marked .1 k (omega arith)))
+  marked-yes within passes = (
+    (λ k below. ⊎-elim (here k) (λ ne. getD-set-other now i k true false ne ∙ marked .0 k (omega arith)) (cases-eq k i)),
+    (λ k above. getD-set-other now i k true false (omega arith) ∙ marked .1 k (omega arith)),
+  )
     where
       here : (k : ℕ) → k ≡ i → getD (set now i true) k false ≡ (getD before k false || p k)
       here k at =
@@ -104,6 +105,7 @@ module _ (before : List Bool) (p : ℕ → Bool) (i : ℕ) (now : List Bool) (ma
           ∙ or-true (getD before k false) (p k) (ap p at ∙ passes)
 
   pub marked-no : p i ≡ false → Marked before p (i + 1) now
-  marked-no fails =
-      ((λ k below. ⊎-elim (λ at. marked .1 k (omega arith) ∙ or-false _ (p k) (ap p at ∙ fails)) (λ ne. marked .0 k (omega arith)) (cases-eq k i))
-      , (λ k above. marked .1 k (omega arith)))
+  marked-no fails = (
+    (λ k below. ⊎-elim (λ at. marked .1 k (omega arith) ∙ or-false _ (p k) (ap p at ∙ fails)) (λ ne. marked .0 k (omega arith)) (cases-eq k i)),
+    (λ k above. marked .1 k (omega arith)),
+  )

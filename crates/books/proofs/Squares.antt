@@ -45,9 +45,10 @@ module _ {F : Type 0} (n : ℕ) (cells : List (Cell F)) (square : Square n cells
 
 -- different pairs of blocks have different places
 pub place-apart : (n a b c d : ℕ) → b < n → d < n → a * n + b ≡ c * n + d → (a ≡ c) × (b ≡ d)
-place-apart n a b c d lower below same =
-    (sym (div-mul-add a n b lower) ∙ ap (λ (k : ℕ). k / n) same ∙ div-mul-add c n d below
-    , sym (mod-mul-add a n b lower) ∙ ap (λ (k : ℕ). k % n) same ∙ mod-mul-add c n d below)
+place-apart n a b c d lower below same = (
+  sym (div-mul-add a n b lower) ∙ ap (λ (k : ℕ). k / n) same ∙ div-mul-add c n d below,
+  sym (mod-mul-add a n b lower) ∙ ap (λ (k : ℕ). k % n) same ∙ mod-mul-add c n d below,
+)
 
 -- the lines alone make the meaning
 pub same-meaning : {F : Type 0} (n : ℕ) (before after : List (Cell F)) → lines after ≡ lines before → cells-meaning n after ≡ cells-meaning n before

@@ -58,7 +58,13 @@ fn count_support<F: Factor>(cells: &[Cell<F>], n: usize, a: usize, b: usize) -> 
     count
 }
 
-fn enter_in<F: Factor>(cells: &mut [Cell<F>], n: usize, a: usize, b: usize, factor: F) -> Result<(), BookFault>
+fn enter_in<F: Factor>(
+    cells: &mut [Cell<F>],
+    n: usize,
+    a: usize,
+    b: usize,
+    factor: F,
+) -> Result<(), BookFault>
     requires { ⌜ PlainSound (F·Factor .ring .ops .zero) n (now cells) ⌝ }
     ensures answers { λ r. ⌜ r ≡ entering (cells-meaning n (now (cells .entry))) a b ⌝ }
     ensures rewrites { λ r. ⌜ now (cells .exit) ≡ granted r (relined (F·Factor .ring .ops .zero) (now (cells .entry)) (a * n + b) (Some factor)) (now (cells .entry)) ⌝ }
@@ -77,7 +83,12 @@ fn enter_in<F: Factor>(cells: &mut [Cell<F>], n: usize, a: usize, b: usize, fact
     Ok(())
 }
 
-fn strike_in<F: Factor>(cells: &mut [Cell<F>], n: usize, a: usize, b: usize) -> Result<(), BookFault>
+fn strike_in<F: Factor>(
+    cells: &mut [Cell<F>],
+    n: usize,
+    a: usize,
+    b: usize,
+) -> Result<(), BookFault>
     requires { ⌜ PlainSound (F·Factor .ring .ops .zero) n (now cells) ⌝ }
     ensures answers { λ r. ⌜ r ≡ striking (cells-meaning n (now (cells .entry))) a b ⌝ }
     ensures rewrites { λ r. ⌜ now (cells .exit) ≡ granted r (relined (F·Factor .ring .ops .zero) (now (cells .entry)) (a * n + b) None) (now (cells .entry)) ⌝ }
@@ -102,7 +113,12 @@ fn factor_in<F: Factor>(cells: &mut [Cell<F>], n: usize, a: usize, b: usize) -> 
     }
 }
 
-fn reach_in<F: Factor>(cells: &mut [Cell<F>], n: usize, a: usize, b: usize) -> Result<bool, BookFault>
+fn reach_in<F: Factor>(
+    cells: &mut [Cell<F>],
+    n: usize,
+    a: usize,
+    b: usize,
+) -> Result<bool, BookFault>
     requires { ⌜ PlainSound (F·Factor .ring .ops .zero) n (now cells) ⌝ }
     ensures answers { λ r. ⌜ r ≡ reaching (cells-meaning n (now (cells .entry))) a b ⌝ }
     ensures same { λ _. ⌜ now (cells .exit) ≡ now (cells .entry) ⌝ }
@@ -111,7 +127,12 @@ fn reach_in<F: Factor>(cells: &mut [Cell<F>], n: usize, a: usize, b: usize) -> R
     Ok(search(cells, n, a)[b])
 }
 
-fn support_in<F: Factor>(cells: &mut [Cell<F>], n: usize, a: usize, b: usize) -> Result<u16, BookFault>
+fn support_in<F: Factor>(
+    cells: &mut [Cell<F>],
+    n: usize,
+    a: usize,
+    b: usize,
+) -> Result<u16, BookFault>
     requires { ⌜ PlainSound (F·Factor .ring .ops .zero) n (now cells) ⌝ }
     ensures answers { λ r. ⌜ r ≡ supporting (cells-meaning n (now (cells .entry))) a b ⌝ }
     ensures same { λ _. ⌜ now (cells .exit) ≡ now (cells .entry) ⌝ }
@@ -120,7 +141,12 @@ fn support_in<F: Factor>(cells: &mut [Cell<F>], n: usize, a: usize, b: usize) ->
     Ok(count_support(cells, n, a, b))
 }
 
-fn need_in<F: Factor>(cells: &mut [Cell<F>], n: usize, a: usize, b: usize) -> Result<bool, BookFault>
+fn need_in<F: Factor>(
+    cells: &mut [Cell<F>],
+    n: usize,
+    a: usize,
+    b: usize,
+) -> Result<bool, BookFault>
     requires { ⌜ PlainSound (F·Factor .ring .ops .zero) n (now cells) ⌝ }
     ensures answers { λ r. ⌜ r ≡ needing (cells-meaning n (now (cells .entry))) a b ⌝ }
     ensures same { λ _. ⌜ now (cells .exit) ≡ now (cells .entry) ⌝ }

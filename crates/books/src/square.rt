@@ -68,7 +68,13 @@ pub(crate) fn line_at<F: Factor>(cells: &[Cell<F>], n: usize, a: usize, b: usize
 }
 
 /// Sets the line of the pair `(a, b)` anew.
-pub(crate) fn set_line<F: Factor>(cells: &mut [Cell<F>], n: usize, a: usize, b: usize, line: Option<F>)
+pub(crate) fn set_line<F: Factor>(
+    cells: &mut [Cell<F>],
+    n: usize,
+    a: usize,
+    b: usize,
+    line: Option<F>,
+)
     requires square { ⌜ Square n (now cells) ⌝ }
     requires upper { ⌜ a < n ⌝ }
     requires lower { ⌜ b < n ⌝ }

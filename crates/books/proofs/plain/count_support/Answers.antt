@@ -24,14 +24,16 @@ loop-l-again g c =
     let line = sym (ap isSome (c .line-at .ensures)) in
     let reached = sym (c .search-reached .ensures l (c .loop-l-test .taken)) in
     elim (c .if-is-some .came) [
-      then-is-some·then-reached-l w ↦
-        w .count-is ∙ count-more-yes l supports (c .loop-l .count) (c .loop-l .inv) (and-from _ _ (line ∙ sym (w .if-is-some .ensures tt)) (reached ∙ w .if-reached-l .taken))
-    | else-is-some w ↦
-        w .count-is
-        ∙ count-more-no l supports (c .loop-l .count) (c .loop-l .inv)
-        (elim (w .else-is-some .came) [
-          else-is-some·by·then-is-some·else-reached-l v ↦ and-right _ _ (reached ∙ v .if-reached-l .left)
-        | else-is-some·by·else-is-some v ↦ and-left _ _ (line ∙ sym (v .if-is-some .ensures tt)) ]) ]
+      | then-is-some·then-reached-l w ↦
+          w .count-is ∙ count-more-yes l supports (c .loop-l .count) (c .loop-l .inv) (and-from _ _ (line ∙ sym (w .if-is-some .ensures tt)) (reached ∙ w .if-reached-l .taken))
+      | else-is-some w ↦
+          w .count-is
+          ∙ count-more-no l supports (c .loop-l .count) (c .loop-l .inv)
+          (elim (w .else-is-some .came) [
+            | else-is-some·by·then-is-some·else-reached-l v ↦ and-right _ _ (reached ∙ v .if-reached-l .left)
+            | else-is-some·by·else-is-some v ↦ and-left _ _ (line ∙ sym (v .if-is-some .ensures tt))
+          ])
+    ]
 
 pub returns : need.returns
 unfolding support

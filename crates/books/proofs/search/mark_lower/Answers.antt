@@ -18,9 +18,10 @@ loop-j-again g c =
     let Next : List Bool → Type 0 = Marked (c .args .seen .now) test (now .j + 1) in
     let line = ap isSome (c .line-at .ensures) in
     elim (c .if-is-some .came) [
-      then-is-some w ↦
-        subst Next (sym (w .seen-is))
-        (marked-yes (c .args .seen .now) test (now .j) (now .seen) (now .inv) (omega arith) (sym line ∙ sym (w .if-is-some .ensures tt)))
-    | else-is-some w ↦
-        subst Next (sym (w .seen-is))
-        (marked-no (c .args .seen .now) test (now .j) (now .seen) (now .inv) (sym line ∙ sym (w .if-is-some .ensures tt))) ]
+      | then-is-some w ↦
+          subst Next (sym (w .seen-is))
+          (marked-yes (c .args .seen .now) test (now .j) (now .seen) (now .inv) (omega arith) (sym line ∙ sym (w .if-is-some .ensures tt)))
+      | else-is-some w ↦
+          subst Next (sym (w .seen-is))
+          (marked-no (c .args .seen .now) test (now .j) (now .seen) (now .inv) (sym line ∙ sym (w .if-is-some .ensures tt)))
+    ]

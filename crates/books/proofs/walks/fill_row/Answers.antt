@@ -17,6 +17,7 @@ loop-a-again g c =
     let now = c .loop-a in
     let room : n * n ≤ length (now .cells) = omega (arith, c .pre .square .room, now .kept .cells) in
     let Next : List (Cell (g .F .Denot)) → Type 0 = λ cells. Scratched n start cells × Filled (ring .ops) (cells-meaning n start) (c .args .b) (c .args .k * n + (now .a + 1)) cells in
-    subst Next (sym (c .set-total .ensures))
-    (scratched-more (now .inv .0) (with-total-scratched n (now .cells) room (c .args .k) (now .a) (c .pre .row) (c .loop-a-test .taken) (ring .ops .zero) (c .walks-of-walks .result))
-    , filled-more ring n (c .args .b) start (now .cells) (c .args .k) (now .a) (c .walks-of-walks .result) room (c .pre .row) (c .loop-a-test .taken) (now .inv .0) (now .inv .1) (c .walks-of-walks .ensures))
+    subst Next (sym (c .set-total .ensures)) (
+      scratched-more (now .inv .0) (with-total-scratched n (now .cells) room (c .args .k) (now .a) (c .pre .row) (c .loop-a-test .taken) (ring .ops .zero) (c .walks-of-walks .result)),
+      filled-more ring n (c .args .b) start (now .cells) (c .args .k) (now .a) (c .walks-of-walks .result) room (c .pre .row) (c .loop-a-test .taken) (now .inv .0) (now .inv .1) (c .walks-of-walks .ensures),
+    )

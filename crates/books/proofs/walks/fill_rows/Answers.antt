@@ -1,2 +1,1 @@
 use Rattle.books.proofs.walks.fill_rows.Needs as need
-

@@ -15,18 +15,19 @@ loop-c-again g c =
     let note = noted-total r (c .args .n) (c .args .cells .now) (c .args .k) in
     let more = sum-more r i (λ b. along r (cells-meaning (c .args .n) (c .args .cells .now) .line (c .args .a) b) (note b)) in
     elim (c .match-line-at .came) [
-      in-Some w ↦
-        w .sum-is
-        ∙ w .add-sum .ensures
-        ∙ ap₂ (r .add) (c .loop-c .inv) (w .multiply .ensures ∙ ap (r .mul (w .in-Some .factor)) (w .noted .ensures))
-        ∙ ap (λ l. r .add (row-sum r (c .args .n) (c .args .cells .now) (c .args .k) (c .args .a) i) (along r l (note i))) (sym (w .in-Some .is) ∙ c .line-at .ensures)
-        ∙ sym more
-    | in-rest w ↦
-        w .sum-is
-        ∙ c .loop-c .inv
-        ∙ sym (ring .add-zero _)
-        ∙ ap (λ l. r .add (row-sum r (c .args .n) (c .args .cells .now) (c .args .k) (c .args .a) i) (along r l (note i))) (sym (w .in-rest .is) ∙ c .line-at .ensures)
-        ∙ sym more ]
+      | in-Some w ↦
+          w .sum-is
+          ∙ w .add-sum .ensures
+          ∙ ap₂ (r .add) (c .loop-c .inv) (w .multiply .ensures ∙ ap (r .mul (w .in-Some .factor)) (w .noted .ensures))
+          ∙ ap (λ l. r .add (row-sum r (c .args .n) (c .args .cells .now) (c .args .k) (c .args .a) i) (along r l (note i))) (sym (w .in-Some .is) ∙ c .line-at .ensures)
+          ∙ sym more
+      | in-rest w ↦
+          w .sum-is
+          ∙ c .loop-c .inv
+          ∙ sym (ring .add-zero _)
+          ∙ ap (λ l. r .add (row-sum r (c .args .n) (c .args .cells .now) (c .args .k) (c .args .a) i) (along r l (note i))) (sym (w .in-rest .is) ∙ c .line-at .ensures)
+          ∙ sym more
+    ]
 
 pub returns : need.returns
 returns g c =
