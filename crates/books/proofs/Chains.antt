@@ -1,12 +1,12 @@
 -- Chains of lines: how they join, how long they get without a circle, and what reach, detours and needed lines say of them.
 --   chain-append, reaches-append, reaches-same, reaches-after, chain-last, chain-onward   chains put together and apart
---   chain-end, chain-blocks   chains go between blocks
+--   chain-end   chains end at blocks
 --   chain-short, chain-within-size   a chain has fewer lines than there are blocks
 --   reaches-decides, reaches-chain, chain-reaches   computed reach is the existence of a chain
 --   search-decides   a search that has followed every line has found the reach
 --   support-counted, detour-decides, needed-decides, needed-is-support-one   supports and needed lines
 --   chain-among, circleless-among   fewer lines
---   enter-.., strike-.., no-lines-..   a change of one line, and the book without lines
+--   strike-circleless, enter-circleless, no-lines-circleless   a change of one line, and the book without lines
 use mathlib.Core.Path.{_≡_, refl, sym, _∙_, ap, subst}
 use mathlib.Core.Bool.{Bool, true, false, cond, not, _&&_}
 use mathlib.Core.Logic.{_⊎_, inl, inr}
@@ -52,9 +52,6 @@ module _ {F : Type 0} (m : Meaning F) (bounded : Bounded m) where
   pub chain-end : {k a b : ℕ} → a < m .size → Chain m k a b → b < m .size
   chain-end h empty = h
   chain-end h (then {a} {b} s e) = chain-end (bounded a b s .1) e
-
-  pub chain-blocks : {k a b : ℕ} → Chain m (suc k) a b → (a < m .size) × (b < m .size)
-  chain-blocks (then {a} {b} s e) = (bounded a b s .0, chain-end (bounded a b s .1) e)
 
 module _ {F : Type 0} (m : Meaning F) where
   pub within-reaches : (k a b : ℕ) → reaches-within m k a b ≡ true → Reaches m a b
@@ -194,17 +191,8 @@ module _ {F : Type 0} (m : Meaning F) (a b : ℕ) where
     | inr e ↦ inr (ap isSome (sym (cond-false (eqb i a && eqb j b) o (m .line i j) e)) ∙ s)
   ]
 
-  pub enter-bounded : (o : Option F) → a < m .size → b < m .size → Bounded m → Bounded (with-line m a b o)
-  enter-bounded o p q bounded i j s = elim (with-line-stands o i j s) [
-    | inl (x, y, _) ↦ (rw x p, rw y q)
-    | inr old ↦ bounded i j old
-  ]
-
   struck-among : (i j : ℕ) → stands (with-line m a b None) i j ≡ true → stands m i j ≡ true
   struck-among i j s = elim (with-line-stands None i j s) [ inl (_, _, never) ↦ absurd (false≢true never) | inr old ↦ old ]
-
-  pub strike-bounded : Bounded m → Bounded (with-line m a b None)
-  strike-bounded bounded i j s = bounded i j (struck-among i j s)
 
   pub strike-circleless : Circleless m → Circleless (with-line m a b None)
   strike-circleless = circleless-among (with-line m a b None) m struck-among
@@ -222,9 +210,6 @@ module _ {F : Type 0} (m : Meaning F) (a b : ℕ) where
     | inl old ↦ circleless k i old
     | inr (p, q) ↦ not-from-decides (reaches m b a) (reaches-decides m bounded circleless b a) apart (reaches-append q p)
   ]
-
-pub no-lines-bounded : (F : Type 0) (n : ℕ) → Bounded (no-lines {F = F} n)
-no-lines-bounded F n a b never = absurd (false≢true never)
 
 pub no-lines-circleless : (F : Type 0) (n : ℕ) → Circleless (no-lines {F = F} n)
 no-lines-circleless F n k a (then never e) = false≢true never

@@ -6,21 +6,15 @@ use mathlib.Core.Logic.{⊎-elim}
 use Prim.Native.Nat.{ℕ, _+_, _*_, _≤_, _<_}
 use native.Mathlib.Omega.{arith}
 use lib.Dec.{eqb, ltb}
-use lib.ListN.{length, getD, set, drop}
-use Rattle.std.proofs.shelf.Lists.{map-set, length-set, length-map, getD-set-same, getD-set-other, drop-set-lt}
-use Rattle.std.proofs.shelf.Tests.{and-parts, and-from, and-cases, cond-true, cond-false, cases-eq, eqb-true, eq-eqb, ltb-true, false≢true}
+use lib.ListN.{length, getD, set}
+use Rattle.std.proofs.shelf.Lists.{map-set, length-set, length-map, getD-set-same, getD-set-other}
+use Rattle.std.proofs.shelf.Tests.{and-parts, and-from, cond-true, cond-false, cases-eq, eqb-true, eq-eqb, ltb-true, false≢true}
 use Rattle.std.specs.declared.option.Option.{Option}
 use Rattle.std.specs.declared.option.Option.the-variants.{Some, None}
-use Rattle.std.specs.declared.result.Result.{Result}
-use Rattle.std.specs.declared.result.Result.the-variants.{Ok, Err}
-use Rattle.books.specs.Graph.{Meaning, Circleless, with-line}
-use Rattle.books.specs.Calls.{granted, change-effect, entering, entered, striking, struck}
-use Rattle.books.specs.Cells.{Square, PlainSound, blank-cell, cell-line, lines, factors, lines-meaning, cells-meaning, cells-bounded, with-cell-line, relined}
-use Rattle.books.specs.Plain.{cells-alter}
+use Rattle.books.specs.Graph.{Meaning, Circleless, Safe, with-line}
+use Rattle.books.specs.Cells.{PlainSound, blank-cell, cell-line, lines, factors, lines-meaning, cells-meaning, with-cell-line, relined}
 use Rattle.books.specs.declared.cell.Cell.{Cell}
-use Rattle.books.specs.declared.fault.BookFault.{BookFault}
-use Rattle.books.proofs.Chains.{enter-circleless, strike-circleless}
-use Rattle.books.proofs.Refusals.{may-enter, may-strike}
+use Rattle.books.proofs.Chains.{strike-circleless}
 use Rattle.books.proofs.Squares.{inside, place-below, place-apart}
 
 -- the factor that is stored for a line, zero without one
@@ -103,49 +97,10 @@ module _ {F : Type 0} (zero : F) (n : ℕ) (cells : List (Cell F)) (room : n * n
       circleless = subst (λ (m : Meaning F). Circleless m) (sym relined-meaning) circleless;
     }
 
--- what the cells hold after a change, granted or refused
-pub record Changed {F : Type 0} (zero : F) (n : ℕ) (before after : List (Cell F)) (r : Result (Unit {0}) BookFault) (m : Meaning F) : Type 0 where
-  pub leaves : cells-meaning n after ≡ m
-  pub keeps : PlainSound zero n after
-  pub same : cells-alter (change-effect r) n before after
-
-module _ {F : Type 0} (zero : F) (n : ℕ) (cells after : List (Cell F)) (sound : PlainSound zero n cells) (a b : ℕ) where
-  change-holds : (o : Option F) (r call : Result (Unit {0}) BookFault)
-      → ((u : Unit {0}) → call ≡ Ok u → (a < n) × (b < n) × Circleless (with-line (cells-meaning n cells) a b o))
-      → r ≡ call → after ≡ granted r (relined zero cells (a * n + b) o) cells
-      → Changed zero n cells after r (granted call (with-line (cells-meaning n cells) a b o) (cells-meaning n cells))
-  change-holds o (Ok u) call allows answer rewrites =
-      let (upper, lower, circleless) = allows u (sym answer) in
-      let room = sound .square .room in
-      record {
-        leaves = ap (cells-meaning n) rewrites ∙ relined-meaning zero n cells room a b upper lower o ∙ ap (λ s. granted s (with-line (cells-meaning n cells) a b o) (cells-meaning n cells)) answer;
-        keeps = subst (λ cs. PlainSound zero n cs) (sym rewrites) (relined-sound zero n cells room a b upper lower o sound circleless);
-        same = ap (drop (n * n)) rewrites ∙ drop-set-lt (n * n) cells (a * n + b) _ (place-below n a b upper lower);
-      }
-  change-holds o (Err e) call allows answer rewrites = record {
-    leaves = ap (cells-meaning n) rewrites ∙ ap (λ s. granted s (with-line (cells-meaning n cells) a b o) (cells-meaning n cells)) answer;
-    keeps = subst (λ cs. PlainSound zero n cs) (sym rewrites) sound;
-    same = rewrites;
-  }
-
-  pub enter-holds : (f : F) (r : Result (Unit {0}) BookFault)
-      → r ≡ entering (cells-meaning n cells) a b → after ≡ granted r (relined zero cells (a * n + b) (Some f)) cells
-      → Changed zero n cells after r (entered (cells-meaning n cells) a b f)
-  unfolding entered
-  enter-holds f r =
-      change-holds (Some f) r (entering (cells-meaning n cells) a b)
-      (λ u grants.
-      let m = cells-meaning n cells in
-      let (upper, lower, free) = may-enter m a b u grants in
-      (upper, lower, enter-circleless m a b (Some f) (cells-bounded n cells) (sound .circleless) free))
-
-  pub strike-holds : (r : Result (Unit {0}) BookFault)
-      → r ≡ striking (cells-meaning n cells) a b → after ≡ granted r (relined zero cells (a * n + b) None) cells
-      → Changed zero n cells after r (struck (cells-meaning n cells) a b)
-  unfolding struck
-  strike-holds r =
-      change-holds None r (striking (cells-meaning n cells) a b)
-      (λ u grants.
-      let m = cells-meaning n cells in
-      let (upper, lower) = may-strike m a b u grants in
-      (upper, lower, strike-circleless m a b (sound .circleless)))
+    -- to set a line anew is safe where it closes no circle
+    pub change-sound : Safe (cells-meaning n cells) a b o → PlainSound zero n (relined zero cells (a * n + b) o)
+    change-sound safe = relined-sound (closes-none o safe)
+      where
+        closes-none : (l : Option F) → Safe (cells-meaning n cells) a b l → Circleless (with-line (cells-meaning n cells) a b l)
+        closes-none (Some f) closes = closes
+        closes-none None closes = strike-circleless (cells-meaning n cells) a b (sound .circleless)

@@ -1,9 +1,10 @@
 -- What any-below and count-below tell of the numbers below a bound that pass a test.
 --   any-decides-of, any-decides, any-found, any-here   whether one passes
---   count-at-most, count-same, count-none, count-some   how many pass
+--   count-at-most, count-none, count-some   how many pass
 --   count-only, count-unique, count-one-decides   just one passes
+--   count-more-yes, count-more-no   one number more
 --   count-counted   the count, said of a property that the test decides
-use mathlib.Core.Path.{_≡_, refl, sym, _∙_, ap, ap₂}
+use mathlib.Core.Path.{_≡_, refl, sym, _∙_, ap}
 use mathlib.Core.Bool.{Bool, true, false, cond}
 use mathlib.Core.Logic.{inl, inr}
 use Prim.Native.Nat.{ℕ, zero, suc, _+_, _≤_, _<_}
@@ -39,11 +40,6 @@ any-here n p k h e = any-decides n p .1 (k, h, e)
 pub count-at-most : (n : ℕ) (p : ℕ → Bool) → count-below n p ≤ n
 count-at-most zero p = omega arith
 count-at-most (suc n) p = let h = count-at-most n p in elim (cases-bool (p n)) [ inl e ↦ rw e (omega arith) | inr e ↦ rw e (omega arith) ]
-
-pub count-same : (n : ℕ) (p q : ℕ → Bool) → ((k : ℕ) → k < n → p k ≡ q k) → count-below n p ≡ count-below n q
-count-same zero p q same = refl
-count-same (suc n) p q same =
-    ap₂ (λ (b : Bool) (c : ℕ). cond b 1 0 + c) (same n (omega arith)) (count-same n p q (λ k h. same k (omega arith)))
 
 pub count-none : (n : ℕ) (p : ℕ → Bool) → ((k : ℕ) → k < n → p k ≡ false) → count-below n p ≡ 0
 count-none zero p no-one = refl

@@ -1,6 +1,6 @@
 -- The working space of a plain book fills with W(k,c,b), row after row, and the column of a block then adds up to its total.
-use mathlib.Core.Path.{_≡_, refl, sym, ap, ap₂, subst, _∙_}
-use mathlib.Core.List.{List, map}
+use mathlib.Core.Path.{_≡_, sym, ap, ap₂, _∙_}
+use mathlib.Core.List.{List}
 use mathlib.Core.Bool.{cond}
 use mathlib.Core.Logic.{⊎-elim}
 use Prim.Native.Nat.{ℕ, suc, _+_, _-_, _*_, _≤_, _<_}
@@ -8,14 +8,13 @@ use native.Mathlib.Numerals.{add-one}
 use native.Mathlib.Nat.{suc-mul}
 use native.Mathlib.Omega.{arith}
 use lib.Dec.{eqb}
-use lib.ListN.{length, getD, set, drop}
+use lib.ListN.{length, getD, set}
 use Rattle.std.proofs.shelf.Lists.{map-set, set-getD, getD-set-same, getD-set-other, getD-map, length-map, drop-set-lt}
 use Rattle.std.proofs.shelf.Tests.{cases-eq}
-use Rattle.std.specs.declared.option.Option.{Option}
-use Rattle.std.specs.declared.option.Option.the-variants.{Some, None}
+use Rattle.std.specs.declared.option.Option.the-variants.{None}
 use Rattle.factors.specs.Ring.{Operations, Ring}
 use Rattle.books.specs.Graph.{Meaning, sum-below, along, walks, total}
-use Rattle.books.specs.Cells.{Square, Scratched, blank-cell, cell-line, lines, factors, totals, cells-meaning, with-total}
+use Rattle.books.specs.Cells.{Scratched, blank-cell, cell-line, lines, factors, totals, cells-meaning, with-total}
 use Rattle.books.specs.Walks.{Filled, noted-total, row-sum}
 use Rattle.books.specs.declared.cell.Cell.{Cell}
 use Rattle.books.proofs.Squares.{place-below, place-apart, same-meaning}
@@ -30,9 +29,6 @@ module _ {F : Type 0} (r : Operations F) where
   walks-none m k a b none = let zeroth : 0 ≡ k = omega arith in ap (λ (j : ℕ). walks r m j a b) zeroth
 
 -- only working space has changed, one step after another
-pub scratched-none : {F : Type 0} (n : ℕ) (cells : List (Cell F)) → Scratched n cells cells
-scratched-none n cells = record { same-lines = refl; same-factors = refl; beyond = refl }
-
 pub scratched-more : {F : Type 0} {n : ℕ} {before between after : List (Cell F)} → Scratched n before between → Scratched n between after → Scratched n before after
 scratched-more p q = record {
   same-lines = q .same-lines ∙ p .same-lines;
@@ -70,11 +66,6 @@ module _ {F : Type 0} (ring : Ring F) (n : ℕ) (b : ℕ) where
 
       before : (c : ℕ) → c < n → (k - 1) * n + c < k * n
       before c below = let row : k * n ≡ (k - 1) * n + n = ap (λ (j : ℕ). j * n) (sym next) ∙ suc-mul (k - 1) n in omega arith
-
-  pub filled-at : (before after cells : List (Cell F)) (p : ℕ) → lines after ≡ lines before → Filled (ring .ops) (cells-meaning n after) b p cells
-      → Filled (ring .ops) (cells-meaning n before) b p cells
-  filled-at before after cells p same filled =
-      subst (λ (m : Meaning F). Filled (ring .ops) m b p cells) (same-meaning n before after same) filled
 
   -- one place more is filled
   pub filled-more : (start cells : List (Cell F)) (k a : ℕ) (x : F) → n * n ≤ length cells → k < n → a < n → Scratched n start cells

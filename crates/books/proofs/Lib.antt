@@ -3,7 +3,6 @@ pub mod Changes
 pub mod Counts
 pub mod Fillings
 pub mod Openings
-pub mod Refusals
 pub mod Searches
 pub mod Squares
 pub mod Sums

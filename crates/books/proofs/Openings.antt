@@ -5,16 +5,13 @@ use mathlib.Core.List.{List, [], _∷_, _++_, map}
 use Prim.Native.Nat.{ℕ, _+_, _*_, _≤_, _<_}
 use native.Mathlib.Omega.{arith}
 use lib.Dec.{eqb, ltb}
-use lib.ListN.{length, getD, set, take, drop, replicate}
+use lib.ListN.{length, getD, set, drop, replicate}
 use Rattle.std.proofs.shelf.Lists.{append-assoc, drop-more, set-at, replicate-more, length-replicate, length-append, length-drop, getD-append-left, getD-map, getD-replicate}
-use Rattle.std.proofs.shelf.Tests.{and-parts, ltb-true, cases-bool, or-parts, eqb-false, ltb-false}
-use Rattle.std.specs.declared.option.Option.{Option}
-use Rattle.std.specs.declared.option.Option.the-variants.{Some, None}
-use Rattle.std.specs.declared.result.Result.{Result}
-use Rattle.std.specs.declared.result.Result.the-variants.{Ok, Err}
+use Rattle.std.proofs.shelf.Tests.{and-parts, ltb-true, ltb-false}
+use Rattle.std.specs.declared.option.Option.the-variants.{None}
 use Rattle.books.specs.Graph.{Meaning, Circleless, no-lines}
-use Rattle.books.specs.Calls.{sizing, opened-size}
-use Rattle.books.specs.Cells.{Square, PlainSound, blank-cell, cell-line, lines, factors, cells-meaning, opened-cells}
+use Rattle.books.specs.Calls.{opened-size}
+use Rattle.books.specs.Cells.{Square, PlainSound, blank-cell, cell-line, lines, cells-meaning, opened-cells}
 use Rattle.books.specs.declared.cell.Cell.{Cell}
 use Rattle.books.proofs.Chains.{no-lines-circleless}
 use Rattle.books.proofs.Squares.{place-below}

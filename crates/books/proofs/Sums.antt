@@ -1,15 +1,11 @@
 -- Sums over the numbers below a bound in a ring, and the laws of zero.
---   zero-add, add-exchange, mul-zero, zero-mul   what the laws of a ring give at once
+--   zero-add, add-exchange, mul-zero   what the laws of a ring give at once
 --   sum-same, sum-zeros, sum-add   sums term by term
---   mul-sum, sum-mul, sum-exchange   a factor, or another sum, moved through a sum
---   sum-first, sum-only, sum-apart   one term taken out
+--   mul-sum, sum-exchange   a factor, or another sum, moved through a sum
+--   sum-first   the first term taken out
 use mathlib.Core.Path.{_≡_, refl, sym, _∙_, ap, ap₂}
-use mathlib.Core.Bool.{Bool, true, false, cond}
-use mathlib.Core.Logic.{inl, inr}
 use Prim.Native.Nat.{ℕ, zero, suc, _<_}
 use native.Mathlib.Omega.{arith}
-use lib.Dec.{eqb}
-use Rattle.std.proofs.shelf.Tests.{cases-eq, eq-eqb, ne-eqb, cond-true, cond-false}
 use Rattle.factors.specs.Ring.{Operations, Ring}
 use Rattle.books.specs.Graph.{sum-below}
 
@@ -38,9 +34,6 @@ module _ {F : Type 0} (r : Ring F) where
   pub mul-zero : (x : F) → x ⊗ o ≡ o
   mul-zero x = twice-zero (x ⊗ o) (sym (r .mul-add x o o) ∙ ap (λ y. x ⊗ y) (r .add-zero o))
 
-  pub zero-mul : (x : F) → o ⊗ x ≡ o
-  zero-mul x = twice-zero (o ⊗ x) (sym (r .add-mul o o x) ∙ ap (λ y. y ⊗ x) (r .add-zero o))
-
   abbrev pub sum : ℕ → (ℕ → F) → F
   sum = sum-below (r .ops)
 
@@ -62,10 +55,6 @@ module _ {F : Type 0} (r : Ring F) where
   mul-sum zero x f = mul-zero x
   mul-sum (suc n) x f = r .mul-add x (sum n f) (f n) ∙ ap (λ u. u ⊕ x ⊗ f n) (mul-sum n x f)
 
-  pub sum-mul : (n : ℕ) (x : F) (f : ℕ → F) → sum n f ⊗ x ≡ sum n (λ k. f k ⊗ x)
-  sum-mul zero x f = zero-mul x
-  sum-mul (suc n) x f = r .add-mul (sum n f) (f n) x ∙ ap (λ u. u ⊕ f n ⊗ x) (sum-mul n x f)
-
   pub sum-exchange : (n k : ℕ) (f : ℕ → ℕ → F) → sum n (λ i. sum k (λ j. f i j)) ≡ sum k (λ j. sum n (λ i. f i j))
   sum-exchange zero k f = sym (sum-zeros k (λ j. o) (λ j h. refl))
   sum-exchange (suc n) k f =
@@ -76,26 +65,3 @@ module _ {F : Type 0} (r : Ring F) where
   sum-first zero f = r .add-comm o (f 0)
   sum-first (suc n) f =
       ap (λ u. u ⊕ f (suc n)) (sum-first n f) ∙ r .add-assoc (f 0) (sum n (λ k. f (suc k))) (f (suc n))
-
-  -- all terms but the one at a are zero
-  pub sum-only : (n : ℕ) (f : ℕ → F) (a : ℕ) → a < n → ((k : ℕ) → k < n → (k ≡ a → ⊥) → f k ≡ o) → sum n f ≡ f a
-  sum-only zero f a h zeros = absurd (omega arith)
-  sum-only (suc n) f a h zeros = elim (cases-eq n a) [
-    | inl here ↦ ap₂ _⊕_ (sum-zeros n f (λ k l. zeros k (omega arith) (omega arith))) (ap f here) ∙ zero-add (f a)
-    | inr there ↦
-        ap₂ _⊕_ (sum-only n f a (omega arith) (λ k l. zeros k (omega arith))) (zeros n (omega arith) there)
-        ∙ r .add-zero (f a)
-  ]
-
-  -- the term at a taken out
-  pub sum-apart : (n : ℕ) (f : ℕ → F) (a : ℕ) → a < n → sum n f ≡ sum n (λ k. cond (eqb k a) o (f k)) ⊕ f a
-  sum-apart n f a h =
-      sum-same n f (λ k. cond (eqb k a) o (f k) ⊕ cond (eqb k a) (f k) o) (λ k l. parted (eqb k a) (f k))
-      ∙ sum-add n (λ k. cond (eqb k a) o (f k)) (λ k. cond (eqb k a) (f k) o)
-      ∙ ap (λ u. sum n (λ k. cond (eqb k a) o (f k)) ⊕ u)
-      (sum-only n (λ k. cond (eqb k a) (f k) o) a h (λ k l other. cond-false (eqb k a) (f k) o (ne-eqb k a other))
-      ∙ cond-true (eqb a a) (f a) o (eq-eqb a a refl))
-    where
-      parted : (b : Bool) (x : F) → x ≡ cond b o x ⊕ cond b x o
-      parted true x = sym (zero-add x)
-      parted false x = sym (r .add-zero x)

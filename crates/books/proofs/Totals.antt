@@ -1,5 +1,5 @@
 -- Totals over all chains: where they are zero, and the equation that they solve in a book without circles.
---   along-zero, along-add, along-sum, along-times   a line's factor times zero, a sum, or a product
+--   along-sum   a line's factor times a sum
 --   walks-no-chain, walks-long   no chains, no total
 --   total-from-lines   the total is one at the same block and goes on along each line from the upper block
 use mathlib.Core.Path.{_≡_, refl, sym, _∙_, ap, subst}
@@ -15,25 +15,13 @@ use Rattle.factors.specs.Ring.{Operations, Ring}
 use Rattle.books.specs.Graph.{Meaning, Bounded, Chain, Circleless, along, walks, total}
 use Rattle.books.specs.Graph.Chain.{empty, then}
 use Rattle.books.proofs.Chains.{chain-short}
-use Rattle.books.proofs.Sums.{sum, mul-zero, zero-mul, sum-same, sum-zeros, mul-sum, sum-exchange, sum-first}
+use Rattle.books.proofs.Sums.{sum, mul-zero, sum-same, sum-zeros, mul-sum, sum-exchange, sum-first}
 
 module _ {F : Type 0} (r : Ring F) where
   open Operations (r .ops) using (zero as o, one as i, add as _⊕_, mul as _⊗_)
 
   infixl 60 _⊕_
   infixl 70 _⊗_
-  pub along-zero : (l : Option F) → along (r .ops) l o ≡ o
-  along-zero (Some f) = mul-zero r f
-  along-zero None = refl
-
-  pub along-add : (l : Option F) (x y : F) → along (r .ops) l (x ⊕ y) ≡ along (r .ops) l x ⊕ along (r .ops) l y
-  along-add (Some f) x y = r .mul-add f x y
-  along-add None x y = sym (r .add-zero o)
-
-  pub along-times : (l : Option F) (x y : F) → along (r .ops) l (x ⊗ y) ≡ along (r .ops) l x ⊗ y
-  along-times (Some f) x y = sym (r .mul-assoc f x y)
-  along-times None x y = sym (zero-mul r y)
-
   pub along-sum : (l : Option F) (n : ℕ) (f : ℕ → F) → along (r .ops) l (sum r n f) ≡ sum r n (λ k. along (r .ops) l (f k))
   along-sum (Some x) n f = mul-sum r n x f
   along-sum None n f = sym (sum-zeros r n (λ k. o) (λ k h. refl))

@@ -50,20 +50,20 @@ abbrev pub opened-size : ℕ → ℕ → ℕ
 opened-size n cells = granted (sizing n cells) n 0
 
 module _ {F : Type 0} (m : Meaning F) (a b : ℕ) where
-  unfoldable pub entering : Result Unit BookFault
+  abbrev pub entering : Result Unit BookFault
   entering =
       refuse (outside m a b) NoBlock
       (refuse (eqb a b) SameBlock (refuse (stands m a b) LineStands (refuse (reaches m b a) Circle (Ok tt))))
 
   -- granted it adds that line and no other
-  unfoldable pub entered : F → Meaning F
+  abbrev pub entered : F → Meaning F
   entered f = granted entering (with-line m a b (Some f)) m
 
-  unfoldable pub striking : Result Unit BookFault
+  abbrev pub striking : Result Unit BookFault
   striking = refuse (outside m a b) NoBlock (refuse (not (stands m a b)) NoLine (Ok tt))
 
   -- granted it removes that line only
-  unfoldable pub struck : Meaning F
+  abbrev pub struck : Meaning F
   struck = granted striking (with-line m a b None) m
 
   -- the factor of a line that stands
@@ -71,19 +71,19 @@ module _ {F : Type 0} (m : Meaning F) (a b : ℕ) where
   line-or-fault (Some f) = Ok f
   line-or-fault None = Err NoLine
 
-  unfoldable pub factoring : Result F BookFault
+  abbrev pub factoring : Result F BookFault
   factoring = refuse (outside m a b) NoBlock (line-or-fault (m .line a b))
 
-  unfoldable pub reaching : Result Bool BookFault
+  abbrev pub reaching : Result Bool BookFault
   reaching = refuse (outside m a b) NoBlock (Ok (reaches m a b))
 
-  unfoldable pub supporting : Result ℕ BookFault
+  abbrev pub supporting : Result ℕ BookFault
   supporting = refuse (outside m a b) NoBlock (Ok (support m a b))
 
-  unfoldable pub needing : Result Bool BookFault
+  abbrev pub needing : Result Bool BookFault
   needing = refuse (outside m a b) NoBlock (refuse (not (stands m a b)) NoLine (Ok (needed m a b)))
 
-  unfoldable pub totalling : Operations F → Result F BookFault
+  abbrev pub totalling : Operations F → Result F BookFault
   totalling r = refuse (outside m a b) NoBlock (Ok (total r m a b))
 
 abbrev pub fault-number : BookFault → ℕ

@@ -20,7 +20,6 @@ use Rattle.std.specs.Options.{isSome}
 use Rattle.std.proofs.shelf.Tests.{and-parts, ltb-true}
 use Rattle.std.specs.declared.option.Option.{Option}
 use Rattle.std.specs.declared.option.Option.the-variants.{Some, None}
-use Rattle.factors.specs.Ring.{Operations}
 use Rattle.books.specs.Graph.{Meaning, Bounded, Circleless}
 use Rattle.books.specs.declared.cell.Cell.{Cell}
 

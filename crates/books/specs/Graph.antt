@@ -6,6 +6,7 @@
 --   Reaches     a chain goes from one block to another
 --   Circleless  no chain of one line or more leads back to its start
 --   Lawful      the laws of every book
+--   Safe        a line that closes no circle
 --   reaches, support, needed, walks, total   what the queries answer, worked out from the lines
 use mathlib.Core.Path.{_≡_}
 use mathlib.Core.Bool.{Bool, true, false, cond, not, _&&_, _||_}
@@ -56,6 +57,11 @@ pub record Lawful {F : Type 0} (m : Meaning F) : Type 0 where
   pub small : m .size ≤ 64
   pub bounded : Bounded m
   pub acyclic : Circleless m
+
+-- a line that may be set at (a,b) closes no circle; to set none is always safe
+abbrev pub Safe : {F : Type 0} → Meaning F → ℕ → ℕ → Option F → Type 0
+Safe m a b (Some f) = Circleless (with-line m a b (Some f))
+Safe m a b None = Unit {0}
 
 -- some number below n passes the test
 abbrev pub any-below : ℕ → (ℕ → Bool) → Bool

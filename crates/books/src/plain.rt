@@ -1,12 +1,16 @@
 // The plain book: it keeps its lines and works every answer out from them.
+ghost use mathlib.Core.Bool.{true};
 ghost use mathlib.Core.Path.{_≡_};
-ghost use Prim.Native.Nat.{_+_, _*_, _<_};
+ghost use Prim.Native.Nat.{_<_};
+ghost use lib.Dec.{eqb};
 ghost use lib.ListN.{length};
-ghost use Rattle.std.specs.declared.option.Option.the-variants.{Some, None};
-ghost use Rattle.books.specs.Graph.{Circleless, support, no-lines};
-ghost use Rattle.books.specs.Calls.{opened-size, granted, entering, entered, striking, struck, factoring, reaching, supporting, needing, totalling};
-ghost use Rattle.books.specs.Cells.{Square, Scratched, PlainSound, cells-meaning, relined, opened-cells};
-ghost use Rattle.books.specs.Plain.{held, plain-meaning, plain-sound, plain-alters, plain-lawful};
+ghost use Rattle.std.specs.Results.{isOk};
+ghost use Rattle.std.specs.declared.option.Option.the-variants.{Some};
+ghost use Rattle.books.specs.Graph.{Circleless, Safe, stands, support, needed, no-lines, with-line};
+ghost use Rattle.books.specs.Calls.Effect.{changing};
+ghost use Rattle.books.specs.Calls.{change-effect, opened-size, entering, entered, striking, struck, factoring, reaching, supporting, needing, totalling};
+ghost use Rattle.books.specs.Cells.{Square, Scratched, PlainSound, cells-meaning, opened-cells};
+ghost use Rattle.books.specs.Plain.{held, cells-alter, plain-meaning, plain-sound, plain-alters, plain-lawful};
 use crate::book::Book;
 use crate::cell::Cell;
 use crate::fault::BookFault;
@@ -34,10 +38,24 @@ impl<'a, F: Factor> PlainBook<'a, F> {
         ensures leaves { λ r. ⌜ plain-meaning r ≡ no-lines (r .size) ⌝ }
         ensures keeps { λ r. ⌜ plain-sound (F·Factor .ring .ops .zero) r ⌝ }
     {
-        let size = openable_size(size, cells.len());
-        blank_cells(cells, size * size);
-        PlainBook { cells, size }
+        let opened = open_in(cells, size);
+        PlainBook {
+            cells,
+            size: opened,
+        }
     }
+}
+
+/// Makes the cells those of a new book, and answers its size.
+fn open_in<F: Factor>(cells: &mut [Cell<F>], size: usize) -> usize
+    ensures sized { λ r. ⌜ r ≡ opened-size size (length (now (cells .entry))) ⌝ }
+    ensures blanks { λ r. ⌜ now (cells .exit) ≡ opened-cells (F·Factor .ring .ops .zero) r (now (cells .entry)) ⌝ }
+    ensures leaves { λ r. ⌜ cells-meaning r (now (cells .exit)) ≡ no-lines r ⌝ }
+    ensures keeps { λ r. ⌜ PlainSound (F·Factor .ring .ops .zero) r (now (cells .exit)) ⌝ }
+{
+    let opened = openable_size(size, cells.len());
+    blank_cells(cells, opened * opened);
+    opened
 }
 
 /// How many lines end at `b` whose upper block `a` reaches.
@@ -46,7 +64,8 @@ fn count_support<F: Factor>(cells: &[Cell<F>], n: usize, a: usize, b: usize) -> 
     requires circleless { ⌜ Circleless (cells-meaning n (now cells)) ⌝ }
     requires upper { ⌜ a < n ⌝ }
     requires lower { ⌜ b < n ⌝ }
-    ensures { λ r. ⌜ r ≡ support (cells-meaning n (now (cells .entry))) a b ⌝ }
+    ensures answers { λ r. ⌜ r ≡ support (cells-meaning n (now (cells .entry))) a b ⌝ }
+    ensures needs { λ r. ⌜ (stands (cells-meaning n (now (cells .entry))) a b ≡ true → needed (cells-meaning n (now (cells .entry))) a b ≡ eqb r 1) ⌝ }
 {
     let reached = search(cells, n, a);
     let mut count = 0;
@@ -58,16 +77,11 @@ fn count_support<F: Factor>(cells: &[Cell<F>], n: usize, a: usize, b: usize) -> 
     count
 }
 
-fn enter_in<F: Factor>(
-    cells: &mut [Cell<F>],
-    n: usize,
-    a: usize,
-    b: usize,
-    factor: F,
-) -> Result<(), BookFault>
+/// Whether the line `(a, b)` may be entered.
+fn may_enter<F: Factor>(cells: &[Cell<F>], n: usize, a: usize, b: usize) -> Result<(), BookFault>
     requires { ⌜ PlainSound (F·Factor .ring .ops .zero) n (now cells) ⌝ }
     ensures answers { λ r. ⌜ r ≡ entering (cells-meaning n (now (cells .entry))) a b ⌝ }
-    ensures rewrites { λ r. ⌜ now (cells .exit) ≡ granted r (relined (F·Factor .ring .ops .zero) (now (cells .entry)) (a * n + b) (Some factor)) (now (cells .entry)) ⌝ }
+    ensures safe { λ r. ⌜ ((f : F) → isOk r ≡ true → Safe (cells-meaning n (now (cells .entry))) a b (Some f)) ⌝ }
 {
     check_pair(n, a, b)?;
     if a == b {
@@ -79,7 +93,37 @@ fn enter_in<F: Factor>(
     if search(cells, n, b)[a] {
         return Err(BookFault::Circle);
     }
-    set_line(cells, n, a, b, Some(factor));
+    Ok(())
+}
+
+/// Sets the line `(a, b)` anew, which must close no circle.
+fn change_line<F: Factor>(cells: &mut [Cell<F>], n: usize, a: usize, b: usize, line: Option<F>)
+    requires sound { ⌜ PlainSound (F·Factor .ring .ops .zero) n (now cells) ⌝ }
+    requires upper { ⌜ a < n ⌝ }
+    requires lower { ⌜ b < n ⌝ }
+    requires safe { ⌜ Safe (cells-meaning n (now cells)) a b line ⌝ }
+    ensures leaves { λ _. ⌜ cells-meaning n (now (cells .exit)) ≡ with-line (cells-meaning n (now (cells .entry))) a b line ⌝ }
+    ensures keeps { λ _. ⌜ PlainSound (F·Factor .ring .ops .zero) n (now (cells .exit)) ⌝ }
+    ensures same { λ _. ⌜ cells-alter changing n (now (cells .entry)) (now (cells .exit)) ⌝ }
+{
+    set_line(cells, n, a, b, line);
+}
+
+fn enter_in<F: Factor>(
+    cells: &mut [Cell<F>],
+    n: usize,
+    a: usize,
+    b: usize,
+    factor: F,
+) -> Result<(), BookFault>
+    requires { ⌜ PlainSound (F·Factor .ring .ops .zero) n (now cells) ⌝ }
+    ensures answers { λ r. ⌜ r ≡ entering (cells-meaning n (now (cells .entry))) a b ⌝ }
+    ensures leaves { λ _. ⌜ cells-meaning n (now (cells .exit)) ≡ entered (cells-meaning n (now (cells .entry))) a b factor ⌝ }
+    ensures keeps { λ _. ⌜ PlainSound (F·Factor .ring .ops .zero) n (now (cells .exit)) ⌝ }
+    ensures same { λ r. ⌜ cells-alter (change-effect r) n (now (cells .entry)) (now (cells .exit)) ⌝ }
+{
+    may_enter(cells, n, a, b)?;
+    change_line(cells, n, a, b, Some(factor));
     Ok(())
 }
 
@@ -91,13 +135,15 @@ fn strike_in<F: Factor>(
 ) -> Result<(), BookFault>
     requires { ⌜ PlainSound (F·Factor .ring .ops .zero) n (now cells) ⌝ }
     ensures answers { λ r. ⌜ r ≡ striking (cells-meaning n (now (cells .entry))) a b ⌝ }
-    ensures rewrites { λ r. ⌜ now (cells .exit) ≡ granted r (relined (F·Factor .ring .ops .zero) (now (cells .entry)) (a * n + b) None) (now (cells .entry)) ⌝ }
+    ensures leaves { λ _. ⌜ cells-meaning n (now (cells .exit)) ≡ struck (cells-meaning n (now (cells .entry))) a b ⌝ }
+    ensures keeps { λ _. ⌜ PlainSound (F·Factor .ring .ops .zero) n (now (cells .exit)) ⌝ }
+    ensures same { λ r. ⌜ cells-alter (change-effect r) n (now (cells .entry)) (now (cells .exit)) ⌝ }
 {
     check_pair(n, a, b)?;
     if line_at(cells, n, a, b).is_none() {
         return Err(BookFault::NoLine);
     }
-    set_line(cells, n, a, b, None);
+    change_line(cells, n, a, b, None);
     Ok(())
 }
 

@@ -2,10 +2,12 @@ use mathlib.Core.Path.{sym, ap, _∙_}
 use mathlib.Core.Bool.{Bool, _&&_}
 use Prim.Native.Nat.{ℕ}
 use native.Mathlib.Omega.{arith}
+use lib.Dec.{eqb}
 use Rattle.std.proofs.shelf.Tests.{and-from, and-left, and-right}
 use Rattle.std.specs.Options.{isSome}
 use Rattle.books.specs.Graph.{stands, reaches, support, count-below}
-use Rattle.books.specs.Cells.{cells-meaning}
+use Rattle.books.specs.Cells.{cells-meaning, cells-bounded}
+use Rattle.books.proofs.Chains.{needed-is-support-one}
 use Rattle.books.proofs.Counts.{count-at-most, count-more-yes, count-more-no}
 use Rattle.books.proofs.plain.count_support.Needs as need
 use Rattle.books.proofs.plain.count_support.Needs.{then-is-some·then-reached-l, else-is-some, else-is-some·by·then-is-some·else-reached-l, else-is-some·by·else-is-some}
@@ -39,4 +41,6 @@ pub returns : need.returns
 unfolding support
 returns g c =
     let m = cells-meaning (c .args .n) (c .args .cells .now) in
-    c .loop-l .inv ∙ ap (λ (k : ℕ). count-below k (λ l. stands m l (c .args .b) && reaches m (c .args .a) l)) (omega arith)
+    let count = c .loop-l .inv ∙ ap (λ (k : ℕ). count-below k (λ l. stands m l (c .args .b) && reaches m (c .args .a) l)) (omega arith) in
+    let one = needed-is-support-one m (cells-bounded (c .args .n) (c .args .cells .now)) (c .pre .circleless) (c .args .a) (c .args .b) (c .pre .upper) in
+    record { answers = count; needs = λ line. one line ∙ ap (λ (k : ℕ). eqb k 1) (sym count) }

@@ -1,9 +1,8 @@
 use mathlib.Core.Path.{sym, ap, subst, _∙_}
 use mathlib.Core.Bool.{Bool}
 use mathlib.Core.List.{List}
-use Prim.Native.Nat.{ℕ, _+_, _<_}
+use Prim.Native.Nat.{ℕ, _+_}
 use native.Mathlib.Omega.{arith}
-use lib.ListN.{length}
 use Rattle.std.specs.Options.{isSome}
 use Rattle.books.specs.Graph.{stands}
 use Rattle.books.specs.Cells.{cells-meaning}

@@ -1,6 +1,6 @@
 use Prim.Native.Nat.{ℕ, _≤_, _<_}
 use mathlib.Core.Path.{_≡_}
-use mathlib.Core.Bool.{true, false, _||_}
+use mathlib.Core.Bool.{false, _||_}
 use lib.ListN.{getD}
 use Rattle.books.specs.Graph.{stands}
 use Rattle.books.specs.Cells.{cells-meaning}

@@ -1,9 +1,8 @@
-use mathlib.Core.Path.{sym, subst, subst₂, ap}
+use mathlib.Core.Path.{sym, subst₂}
 use mathlib.Core.Bool.{Bool}
 use mathlib.Core.List.{List}
 use lib.ListN.{set}
 use mathlib.Core.Bool.{true}
-use Rattle.books.specs.Graph.{Meaning}
 use Rattle.books.specs.Cells.{cells-meaning}
 use Rattle.books.proofs.Searches.{Searched, search-starts, search-visits, search-falls, search-ends}
 use Rattle.books.specs.Cells.{cells-bounded}

@@ -1,9 +1,5 @@
-use Prim.Native.Nat.{ℕ, _<_}
-use mathlib.Core.Path.{_≡_}
-use mathlib.Core.Bool.{Bool, true, false, not}
-use lib.ListN.{getD, length}
+use mathlib.Core.Bool.{not}
 use Rattle.std.specs.shelf.Lists.{countBy}
-use Rattle.books.specs.Graph.{stands, Reaches}
 use Rattle.books.specs.Cells.{cells-meaning}
 use Rattle.books.proofs.Searches.{Searched}
 use Rattle.books.proofs.search.search.Given as given

@@ -1,7 +1,6 @@
-use mathlib.Core.Path.{sym, ap, ap₂, _∙_}
-use mathlib.Core.List.{List, _++_}
+use mathlib.Core.Path.{ap₂, _∙_}
 use native.Mathlib.Omega.{arith}
-use lib.ListN.{set, replicate, drop}
+use lib.ListN.{set}
 use Rattle.books.specs.Cells.{blank-cell}
 use Rattle.books.proofs.Openings.{front-more}
 use Rattle.books.proofs.square.blank_cells.Needs as need

@@ -1,4 +1,4 @@
-use Prim.Native.Nat.{_+_, _*_}
+use Prim.Native.Nat.{_*_}
 use Rattle.books.specs.Cells.{Scratched, cells-meaning}
 use Rattle.books.specs.Walks.{Filled}
 use Rattle.books.proofs.walks.fill_rows.Given as given

@@ -1,1 +1,0 @@
-use Rattle.books.proofs.walks.fill_rows.Needs as need
