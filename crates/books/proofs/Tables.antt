@@ -2,11 +2,10 @@
 use mathlib.Core.Path.{refl}
 use Rattle.std.specs.shelf.Signed.{wrapped}
 use Rattle.books.specs.Graph.{reaches, support, detour, needed, walks, total}
-use Rattle.books.specs.Calls.{entering, entered, striking, struck}
 use Rattle.books.specs.Worked.{Worked-examples}
 
 pub worked : Worked-examples
-unfolding wrapped reaches support detour needed walks total entering entered striking struck
+unfolding wrapped reaches support detour needed walks total
 worked = record {
   total-of-both-chains = refl;
   support-of-both-chains = refl;

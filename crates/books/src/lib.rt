@@ -8,4 +8,6 @@ pub mod plain;
 mod search;
 pub mod size;
 mod square;
+#[cfg(test)]
+mod tests;
 mod walks;

@@ -1,12 +1,12 @@
 // The plain book: it keeps its lines and works every answer out from them.
-ghost use mathlib.Core.Bool.{true};
+ghost use mathlib.Core.Bool.{true, false};
 ghost use mathlib.Core.Path.{_≡_};
 ghost use Prim.Native.Nat.{_<_};
 ghost use lib.Dec.{eqb};
 ghost use lib.ListN.{length};
 ghost use Rattle.std.specs.Results.{isOk};
 ghost use Rattle.std.specs.declared.option.Option.the-variants.{Some};
-ghost use Rattle.books.specs.Graph.{Circleless, Safe, stands, support, needed, no-lines, with-line};
+ghost use Rattle.books.specs.Graph.{Circleless, Safe, stands, reaches, support, needed, no-lines, with-line};
 ghost use Rattle.books.specs.Calls.Effect.{changing};
 ghost use Rattle.books.specs.Calls.{change-effect, opened-size, entering, entered, striking, struck, factoring, reaching, supporting, needing, totalling};
 ghost use Rattle.books.specs.Cells.{Square, Scratched, PlainSound, cells-meaning, opened-cells};
@@ -77,6 +77,18 @@ fn count_support<F: Factor>(cells: &[Cell<F>], n: usize, a: usize, b: usize) -> 
     count
 }
 
+/// Whether a line `(a, b)` would close a circle.
+fn closes_circle<F: Factor>(cells: &[Cell<F>], n: usize, a: usize, b: usize) -> bool
+    requires square { ⌜ Square n (now cells) ⌝ }
+    requires circleless { ⌜ Circleless (cells-meaning n (now cells)) ⌝ }
+    requires upper { ⌜ a < n ⌝ }
+    requires lower { ⌜ b < n ⌝ }
+    ensures answers { λ r. ⌜ r ≡ reaches (cells-meaning n (now (cells .entry))) b a ⌝ }
+    ensures safe { λ r. ⌜ ((f : F) → r ≡ false → Safe (cells-meaning n (now (cells .entry))) a b (Some f)) ⌝ }
+{
+    search(cells, n, b)[a]
+}
+
 /// Whether the line `(a, b)` may be entered.
 fn may_enter<F: Factor>(cells: &[Cell<F>], n: usize, a: usize, b: usize) -> Result<(), BookFault>
     requires { ⌜ PlainSound (F·Factor .ring .ops .zero) n (now cells) ⌝ }
@@ -90,7 +102,7 @@ fn may_enter<F: Factor>(cells: &[Cell<F>], n: usize, a: usize, b: usize) -> Resu
     if line_at(cells, n, a, b).is_some() {
         return Err(BookFault::LineStands);
     }
-    if search(cells, n, b)[a] {
+    if closes_circle(cells, n, a, b) {
         return Err(BookFault::Circle);
     }
     Ok(())
