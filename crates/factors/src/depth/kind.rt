@@ -18,12 +18,12 @@ impl Depth {
     pub fn new(c0: u16, c1: u16, c2: u16, c3: u16) -> Depth
         ensures { λ r. ⌜ r ≡ depth-of (c0, c1, c2, c3) ⌝ }
     {
-        Depth {
-            c0: c0 % MODULUS,
-            c1: c1 % MODULUS,
-            c2: c2 % MODULUS,
-            c3: c3 % MODULUS,
-        }
+        reduced(
+            u64::from(c0),
+            u64::from(c1),
+            u64::from(c2),
+            u64::from(c3),
+        )
     }
 
     /// The four numbers, the one at place 0 first.
@@ -38,7 +38,12 @@ impl Depth {
 fn reduced(c0: u64, c1: u64, c2: u64, c3: u64) -> Depth
     ensures { λ r. ⌜ r ≡ depth-of (c0, c1, c2, c3) ⌝ }
 {
-    Depth::new(remainder(c0), remainder(c1), remainder(c2), remainder(c3))
+    Depth {
+        c0: remainder(c0),
+        c1: remainder(c1),
+        c2: remainder(c2),
+        c3: remainder(c3),
+    }
 }
 
 fn remainder(number: u64) -> u16
