@@ -15,24 +15,24 @@ module _ {F : Type 0} (r : Ring F) where
   infixl 60 _⊕_
   infixl 70 _⊗_
   pub zero-add : (x : F) → o ⊕ x ≡ x
-  zero-add x = r .add-comm o x ∙ r .add-zero x
+  zero-add x = r .laws .add-comm o x ∙ r .laws .add-zero x
 
   pub add-exchange : (w x y z : F) → w ⊕ x ⊕ (y ⊕ z) ≡ w ⊕ y ⊕ (x ⊕ z)
   add-exchange w x y z =
-      r .add-assoc w x (y ⊕ z)
-      ∙ ap (λ u. w ⊕ u) (sym (r .add-assoc x y z) ∙ ap (λ u. u ⊕ z) (r .add-comm x y) ∙ r .add-assoc y x z)
-      ∙ sym (r .add-assoc w y (x ⊕ z))
+      r .laws .add-assoc w x (y ⊕ z)
+      ∙ ap (λ u. w ⊕ u) (sym (r .laws .add-assoc x y z) ∙ ap (λ u. u ⊕ z) (r .laws .add-comm x y) ∙ r .laws .add-assoc y x z)
+      ∙ sym (r .laws .add-assoc w y (x ⊕ z))
 
   twice-zero : (x : F) → x ⊕ x ≡ x → x ≡ o
   twice-zero x same =
-      sym (r .add-zero x)
+      sym (r .laws .add-zero x)
       ∙ ap (λ u. x ⊕ u) (sym (r .add-opposite x))
-      ∙ sym (r .add-assoc x x (r .opposite x))
+      ∙ sym (r .laws .add-assoc x x (r .opposite x))
       ∙ ap (λ u. u ⊕ r .opposite x) same
       ∙ r .add-opposite x
 
   pub mul-zero : (x : F) → x ⊗ o ≡ o
-  mul-zero x = twice-zero (x ⊗ o) (sym (r .mul-add x o o) ∙ ap (λ y. x ⊗ y) (r .add-zero o))
+  mul-zero x = twice-zero (x ⊗ o) (sym (r .laws .mul-add x o o) ∙ ap (λ y. x ⊗ y) (r .laws .add-zero o))
 
   abbrev pub sum : ℕ → (ℕ → F) → F
   sum = sum-below (r .ops)
@@ -44,16 +44,16 @@ module _ {F : Type 0} (r : Ring F) where
   pub sum-zeros : (n : ℕ) (f : ℕ → F) → ((k : ℕ) → k < n → f k ≡ o) → sum n f ≡ o
   sum-zeros zero f zeros = refl
   sum-zeros (suc n) f zeros =
-      ap₂ _⊕_ (sum-zeros n f (λ k h. zeros k (omega arith))) (zeros n (omega arith)) ∙ r .add-zero o
+      ap₂ _⊕_ (sum-zeros n f (λ k h. zeros k (omega arith))) (zeros n (omega arith)) ∙ r .laws .add-zero o
 
   pub sum-add : (n : ℕ) (f g : ℕ → F) → sum n (λ k. f k ⊕ g k) ≡ sum n f ⊕ sum n g
-  sum-add zero f g = sym (r .add-zero o)
+  sum-add zero f g = sym (r .laws .add-zero o)
   sum-add (suc n) f g =
       ap (λ u. u ⊕ (f n ⊕ g n)) (sum-add n f g) ∙ add-exchange (sum n f) (sum n g) (f n) (g n)
 
   pub mul-sum : (n : ℕ) (x : F) (f : ℕ → F) → x ⊗ sum n f ≡ sum n (λ k. x ⊗ f k)
   mul-sum zero x f = mul-zero x
-  mul-sum (suc n) x f = r .mul-add x (sum n f) (f n) ∙ ap (λ u. u ⊕ x ⊗ f n) (mul-sum n x f)
+  mul-sum (suc n) x f = r .laws .mul-add x (sum n f) (f n) ∙ ap (λ u. u ⊕ x ⊗ f n) (mul-sum n x f)
 
   pub sum-exchange : (n k : ℕ) (f : ℕ → ℕ → F) → sum n (λ i. sum k (λ j. f i j)) ≡ sum k (λ j. sum n (λ i. f i j))
   sum-exchange zero k f = sym (sum-zeros k (λ j. o) (λ j h. refl))
@@ -62,6 +62,6 @@ module _ {F : Type 0} (r : Ring F) where
 
   -- the first term taken out
   pub sum-first : (n : ℕ) (f : ℕ → F) → sum (suc n) f ≡ f 0 ⊕ sum n (λ k. f (suc k))
-  sum-first zero f = r .add-comm o (f 0)
+  sum-first zero f = r .laws .add-comm o (f 0)
   sum-first (suc n) f =
-      ap (λ u. u ⊕ f (suc n)) (sum-first n f) ∙ r .add-assoc (f 0) (sum n (λ k. f (suc k))) (f (suc n))
+      ap (λ u. u ⊕ f (suc n)) (sum-first n f) ∙ r .laws .add-assoc (f 0) (sum n (λ k. f (suc k))) (f (suc n))

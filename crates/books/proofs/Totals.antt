@@ -48,7 +48,7 @@ module _ {F : Type 0} (r : Ring F) where
         → total (r .ops) m a b ≡ cond (eqb a b) i o ⊕ sum r (m .size) (λ c. along (r .ops) (m .line a c) (total (r .ops) m c b))
     unfolding total walks
     total-from-lines bounded circleless a b h =
-        sym (ap (λ u. total (r .ops) m a b ⊕ u) (walks-long bounded circleless a b h) ∙ r .add-zero (total (r .ops) m a b))
+        sym (ap (λ u. total (r .ops) m a b ⊕ u) (walks-long bounded circleless a b h) ∙ r .laws .add-zero (total (r .ops) m a b))
         ∙ sum-first r (m .size) (λ k. walks (r .ops) m k a b)
         ∙ ap (λ u. walks (r .ops) m 0 a b ⊕ u)
         (sum-exchange r (m .size) (m .size) (λ k c. along (r .ops) (m .line a c) (walks (r .ops) m k c b))

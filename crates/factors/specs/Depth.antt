@@ -18,9 +18,9 @@ use native.Mathlib.Nat.{add-mul, mod-eq-of-lt, mod-lt, mul-add, mul-assoc}
 use native.Mathlib.Omega.{arith}
 use lib.Dec.{lit<, lit≤}
 use Rattle.std.proofs.shelf.Bits.{mod-pow-add}
-use Rattle.factors.specs.Ring.{Operations, Ring}
+use Rattle.factors.specs.Ring.{Operations, Laws, Ring}
 use Rattle.factors.specs.Coding.{Coding}
-use Rattle.factors.specs.Images.{Laws, Image, image-ring}
+use Rattle.factors.specs.Images.{Image, image-ring}
 use Rattle.factors.specs.Remainders.{Alike, alike-rest, alike-add, alike-mul}
 use Rattle.factors.specs.declared.depth.Depth.{Depth}
 

@@ -1,5 +1,4 @@
 -- How the laws of sums and products pass from plain numbers to the factors that are made of them.
---   Laws               the laws of a ring but for that of the opposite
 --   number-operations  zero, one, sum and product of natural numbers
 --   number-laws        they keep the laws
 --   Image              each factor is made of numbers, and sums and products of factors are made of those of the numbers
@@ -7,17 +6,7 @@
 use mathlib.Core.Path.{_≡_, ap, subst}
 use Prim.Native.Nat.{ℕ, _+_, _*_}
 use native.Mathlib.Nat.{add-assoc, add-comm, add-mul, add-zero, mul-add, mul-assoc, mul-one, one-mul}
-use Rattle.factors.specs.Ring.{Operations, Ring}
-
-pub record Laws {R : Type 0} (ops : Operations R) : Type 0 where
-  pub add-assoc : (x y z : R) → ops .add (ops .add x y) z ≡ ops .add x (ops .add y z)
-  pub add-comm : (x y : R) → ops .add x y ≡ ops .add y x
-  pub add-zero : (x : R) → ops .add x (ops .zero) ≡ x
-  pub mul-assoc : (x y z : R) → ops .mul (ops .mul x y) z ≡ ops .mul x (ops .mul y z)
-  pub one-mul : (x : R) → ops .mul (ops .one) x ≡ x
-  pub mul-one : (x : R) → ops .mul x (ops .one) ≡ x
-  pub mul-add : (x y z : R) → ops .mul x (ops .add y z) ≡ ops .add (ops .mul x y) (ops .mul x z)
-  pub add-mul : (x y z : R) → ops .mul (ops .add x y) z ≡ ops .add (ops .mul x z) (ops .mul y z)
+use Rattle.factors.specs.Ring.{Operations, Laws, Ring}
 
 abbrev pub number-operations : Operations ℕ
 number-operations = record { zero = 0; one = 1; add = λ a b. a + b; mul = λ a b. a * b }
@@ -56,14 +45,16 @@ module _ {R F : Type 0} {from : Operations R} {to : Operations F} {made : R → 
   abbrev pub image-ring : (opposite : F → F) → ((x : F) → to .add x (opposite x) ≡ to .zero) → Ring F
   image-ring opposite add-opposite = record {
     ops = to;
+    laws = record {
+      add-assoc = every-three _ (λ a b c. simp (image .sums) (ap made (laws .add-assoc a b c)));
+      add-comm = every-two _ (λ a b. simp (image .sums) (ap made (laws .add-comm a b)));
+      add-zero = every _ (λ a. simp (image .zeros, image .sums) (ap made (laws .add-zero a)));
+      mul-assoc = every-three _ (λ a b c. simp (image .products) (ap made (laws .mul-assoc a b c)));
+      one-mul = every _ (λ a. simp (image .ones, image .products) (ap made (laws .one-mul a)));
+      mul-one = every _ (λ a. simp (image .ones, image .products) (ap made (laws .mul-one a)));
+      mul-add = every-three _ (λ a b c. simp (image .sums, image .products) (ap made (laws .mul-add a b c)));
+      add-mul = every-three _ (λ a b c. simp (image .sums, image .products) (ap made (laws .add-mul a b c)));
+    };
     opposite = opposite;
-    add-assoc = every-three _ (λ a b c. simp (image .sums) (ap made (laws .add-assoc a b c)));
-    add-comm = every-two _ (λ a b. simp (image .sums) (ap made (laws .add-comm a b)));
-    add-zero = every _ (λ a. simp (image .zeros, image .sums) (ap made (laws .add-zero a)));
     add-opposite = add-opposite;
-    mul-assoc = every-three _ (λ a b c. simp (image .products) (ap made (laws .mul-assoc a b c)));
-    one-mul = every _ (λ a. simp (image .ones, image .products) (ap made (laws .one-mul a)));
-    mul-one = every _ (λ a. simp (image .ones, image .products) (ap made (laws .mul-one a)));
-    mul-add = every-three _ (λ a b c. simp (image .sums, image .products) (ap made (laws .mul-add a b c)));
-    add-mul = every-three _ (λ a b c. simp (image .sums, image .products) (ap made (laws .add-mul a b c)));
   }

@@ -18,12 +18,7 @@ impl Depth {
     pub fn new(c0: u16, c1: u16, c2: u16, c3: u16) -> Depth
         ensures { λ r. ⌜ r ≡ depth-of (c0, c1, c2, c3) ⌝ }
     {
-        reduced(
-            u64::from(c0),
-            u64::from(c1),
-            u64::from(c2),
-            u64::from(c3),
-        )
+        reduced(u64::from(c0), u64::from(c1), u64::from(c2), u64::from(c3))
     }
 
     /// The four numbers, the one at place 0 first.

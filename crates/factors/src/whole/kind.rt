@@ -1,5 +1,6 @@
 // Whole numbers as a factor kind.
 ghost use mathlib.Core.Path.{_≡_};
+ghost use lib.IntN.{negℤ, _+ℤ_, _*ℤ_};
 ghost use Rattle.factors.specs.Whole.{whole-of, whole-coded, whole-ring, whole-coding};
 use crate::factor::Factor;
 use crate::fault::CodeFault;
@@ -11,7 +12,7 @@ impl Whole {
         ensures made { λ r. ⌜ r ≡ whole-of value ⌝ }
         ensures same { λ r. ⌜ r .value ≡ value ⌝ }
     {
-        Whole { value }
+        of_value(value)
     }
 
     /// The value of the factor.
@@ -22,11 +23,39 @@ impl Whole {
     }
 }
 
+fn of_value(value: i32) -> Whole
+    ensures made { λ r. ⌜ r ≡ whole-of value ⌝ }
+    ensures same { λ r. ⌜ r .value ≡ value ⌝ }
+{
+    Whole { value }
+}
+
+// The factor that is left of the sum of two values.
+fn sum(x: i32, y: i32) -> Whole
+    ensures { λ r. ⌜ r ≡ whole-of (x +ℤ y) ⌝ }
+{
+    of_value(x.wrapping_add(y))
+}
+
+// The factor that is left of the opposite of a value.
+fn negated(x: i32) -> Whole
+    ensures { λ r. ⌜ r ≡ whole-of (negℤ x) ⌝ }
+{
+    of_value(x.wrapping_neg())
+}
+
+// The factor that is left of the product of two values.
+fn product(x: i32, y: i32) -> Whole
+    ensures { λ r. ⌜ r ≡ whole-of (x *ℤ y) ⌝ }
+{
+    of_value(x.wrapping_mul(y))
+}
+
 // The factor whose code is this pattern.
 fn of_pattern(pattern: u32) -> Whole
     ensures { λ r. ⌜ r ≡ whole-coded pattern ⌝ }
 {
-    Whole::new(i32::from_be_bytes(pattern.to_be_bytes()))
+    of_value(i32::from_be_bytes(pattern.to_be_bytes()))
 }
 
 pub impl Factor for Whole as WholeFactor {
@@ -37,23 +66,23 @@ pub impl Factor for Whole as WholeFactor {
     ghost coding = { whole-coding };
 
     fn zero() -> Whole {
-        Whole::new(0)
+        of_value(0)
     }
 
     fn one() -> Whole {
-        Whole::new(1)
+        of_value(1)
     }
 
     fn add(self, other: Whole) -> Whole {
-        Whole::new(self.value.wrapping_add(other.value))
+        sum(self.value, other.value)
     }
 
     fn opposite(self) -> Whole {
-        Whole::new(self.value.wrapping_neg())
+        negated(self.value)
     }
 
     fn multiply(self, other: Whole) -> Whole {
-        Whole::new(self.value.wrapping_mul(other.value))
+        product(self.value, other.value)
     }
 
     fn code_width() -> u32 {

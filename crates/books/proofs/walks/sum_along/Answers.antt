@@ -24,7 +24,7 @@ loop-c-again g c =
       | in-rest w ↦
           w .sum-is
           ∙ c .loop-c .inv
-          ∙ sym (ring .add-zero _)
+          ∙ sym (ring .laws .add-zero _)
           ∙ ap (λ l. r .add (row-sum r (c .args .n) (c .args .cells .now) (c .args .k) (c .args .a) i) (along r l (note i))) (sym (w .in-rest .is) ∙ c .line-at .ensures)
           ∙ sym more
     ]

@@ -1,7 +1,7 @@
 use borrow.Author.Needs.{needs}
 use Rattle.std.proofs.shelf.Signed.{wraps}
 use Rattle.factors.specs.Whole.{whole-same}
-use Rattle.factors.proofs.whole.kind.WholeFactor.opposite.Needs as need
+use Rattle.factors.proofs.whole.kind.negated.Needs as need
 
 pub returns : need.returns
 returns c = whole-same _ _ (search (needs, wraps))
