@@ -1,7 +1,7 @@
 -- What each call of a book answers and which lines it leaves, with the refusals in the order in which they are tested.
 --   entering, striking, .. the answers of the two changes, and of the five queries
 --   entered, struck        the book afterwards
---   Effect                 a change, a refused one or a query
+--   Effect                 a change, a query, or a refused call
 --   fault-number, size-fault-number   the numbers that refusals are reported by
 use mathlib.Core.Bool.{Bool, cond, not, _&&_, _||_}
 use Prim.Native.Nat.{ℕ, _*_}
@@ -29,13 +29,18 @@ granted (Err e) y z = z
 -- how a call ends, as far as it concerns what a book holds beside its meaning
 pub data Effect : Type 0 where
   changing : Effect
-  refusing : Effect
   querying : Effect
+  refusing : Effect
 
 -- a change that is granted, or one that is refused
 abbrev pub change-effect : {X E : Type 0} → Result X E → Effect
 change-effect (Ok x) = changing
 change-effect (Err e) = refusing
+
+-- a query that is granted, or one that is refused
+abbrev pub query-effect : {X E : Type 0} → Result X E → Effect
+query-effect (Ok x) = querying
+query-effect (Err e) = refusing
 
 -- a or b is no block
 abbrev pub outside : {F : Type 0} → Meaning F → ℕ → ℕ → Bool

@@ -10,7 +10,7 @@ use Prim.Native.Nat.{ℕ, _*_}
 use lib.ListN.{drop}
 use denote.Ref.{now}
 use Rattle.books.specs.Calls.{Effect}
-use Rattle.books.specs.Calls.Effect.{changing, refusing, querying}
+use Rattle.books.specs.Calls.Effect.{changing, querying, refusing}
 use Rattle.books.specs.Graph.{Meaning, Lawful}
 use Rattle.books.specs.Cells.{PlainSound, Scratched, cells-meaning, cells-bounded}
 use Rattle.books.specs.declared.cell.Cell.{Cell}
@@ -22,11 +22,11 @@ held s = now (s .cells)
 abbrev pub plain-meaning : {F : Type 0} → PlainBook F → Meaning F
 plain-meaning s = cells-meaning (s .size) (held s)
 
--- A change leaves the cells past the square, a refused one leaves every cell, and a query alters working space only.
+-- A change leaves the cells past the square, a query alters working space only, and a refused call leaves every cell.
 abbrev pub cells-alter : {F : Type 0} → Effect → ℕ → List (Cell F) → List (Cell F) → Type 0
 cells-alter changing n before after = drop (n * n) after ≡ drop (n * n) before
-cells-alter refusing n before after = after ≡ before
 cells-alter querying n before after = Scratched n before after
+cells-alter refusing n before after = after ≡ before
 
 abbrev pub plain-alters : {F : Type 0} → Effect → PlainBook F → PlainBook F → Type 0
 plain-alters e s t = (t .size ≡ s .size) × cells-alter e (s .size) (held s) (held t)

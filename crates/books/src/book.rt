@@ -2,7 +2,7 @@
 ghost use mathlib.Core.Path.{_≡_};
 ghost use Rattle.books.specs.Graph.{Meaning, Lawful};
 ghost use Rattle.books.specs.Calls.Effect.{querying};
-ghost use Rattle.books.specs.Calls.{Effect, change-effect, entering, entered, striking, struck, factoring, reaching, supporting, needing, totalling};
+ghost use Rattle.books.specs.Calls.{Effect, change-effect, query-effect, entering, entered, striking, struck, factoring, reaching, supporting, needing, totalling};
 use crate::fault::BookFault;
 use factors::factor::Factor;
 
@@ -52,7 +52,7 @@ pub trait Book {
         ensures answers { λ r. ⌜ r ≡ factoring (meaning (now (self .entry))) a b ⌝ }
         ensures leaves { λ _. ⌜ meaning (now (self .exit)) ≡ meaning (now (self .entry)) ⌝ }
         ensures keeps { λ _. ⌜ sound (now (self .exit)) ⌝ }
-        ensures same { λ _. ⌜ alters querying (now (self .entry)) (now (self .exit)) ⌝ };
+        ensures same { λ r. ⌜ alters (query-effect r) (now (self .entry)) (now (self .exit)) ⌝ };
 
     /// Whether a chain of lines goes from `a` to `b`.
     fn reach(&mut self, a: usize, b: usize) -> Result<bool, BookFault>
@@ -60,7 +60,7 @@ pub trait Book {
         ensures answers { λ r. ⌜ r ≡ reaching (meaning (now (self .entry))) a b ⌝ }
         ensures leaves { λ _. ⌜ meaning (now (self .exit)) ≡ meaning (now (self .entry)) ⌝ }
         ensures keeps { λ _. ⌜ sound (now (self .exit)) ⌝ }
-        ensures same { λ _. ⌜ alters querying (now (self .entry)) (now (self .exit)) ⌝ };
+        ensures same { λ r. ⌜ alters (query-effect r) (now (self .entry)) (now (self .exit)) ⌝ };
 
     /// How many lines end at `b` whose upper block `a` reaches.
     fn support(&mut self, a: usize, b: usize) -> Result<u16, BookFault>
@@ -68,7 +68,7 @@ pub trait Book {
         ensures answers { λ r. ⌜ r ≡ supporting (meaning (now (self .entry))) a b ⌝ }
         ensures leaves { λ _. ⌜ meaning (now (self .exit)) ≡ meaning (now (self .entry)) ⌝ }
         ensures keeps { λ _. ⌜ sound (now (self .exit)) ⌝ }
-        ensures same { λ _. ⌜ alters querying (now (self .entry)) (now (self .exit)) ⌝ };
+        ensures same { λ r. ⌜ alters (query-effect r) (now (self .entry)) (now (self .exit)) ⌝ };
 
     /// Whether the line from `a` to `b` is needed: no chain of two lines or more goes from `a` to `b`.
     fn need(&mut self, a: usize, b: usize) -> Result<bool, BookFault>
@@ -76,7 +76,7 @@ pub trait Book {
         ensures answers { λ r. ⌜ r ≡ needing (meaning (now (self .entry))) a b ⌝ }
         ensures leaves { λ _. ⌜ meaning (now (self .exit)) ≡ meaning (now (self .entry)) ⌝ }
         ensures keeps { λ _. ⌜ sound (now (self .exit)) ⌝ }
-        ensures same { λ _. ⌜ alters querying (now (self .entry)) (now (self .exit)) ⌝ };
+        ensures same { λ r. ⌜ alters (query-effect r) (now (self .entry)) (now (self .exit)) ⌝ };
 
     /// The sum over all chains from `a` to `b` of the product of their factors.
     fn total(&mut self, a: usize, b: usize) -> Result<Self::Kind, BookFault>
@@ -84,5 +84,5 @@ pub trait Book {
         ensures answers { λ r. ⌜ r ≡ totalling (meaning (now (self .entry))) a b (Kind·Factor .ring .ops) ⌝ }
         ensures leaves { λ _. ⌜ meaning (now (self .exit)) ≡ meaning (now (self .entry)) ⌝ }
         ensures keeps { λ _. ⌜ sound (now (self .exit)) ⌝ }
-        ensures same { λ _. ⌜ alters querying (now (self .entry)) (now (self .exit)) ⌝ };
+        ensures same { λ r. ⌜ alters (query-effect r) (now (self .entry)) (now (self .exit)) ⌝ };
 }

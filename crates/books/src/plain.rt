@@ -8,8 +8,8 @@ ghost use Rattle.std.specs.Results.{isOk};
 ghost use Rattle.std.specs.declared.option.Option.the-variants.{Some};
 ghost use Rattle.books.specs.Graph.{Circleless, Safe, stands, reaches, support, needed, no-lines, with-line};
 ghost use Rattle.books.specs.Calls.Effect.{changing};
-ghost use Rattle.books.specs.Calls.{change-effect, opened-size, entering, entered, striking, struck, factoring, reaching, supporting, needing, totalling};
-ghost use Rattle.books.specs.Cells.{Square, Scratched, PlainSound, cells-meaning, opened-cells};
+ghost use Rattle.books.specs.Calls.{change-effect, query-effect, opened-size, entering, entered, striking, struck, factoring, reaching, supporting, needing, totalling};
+ghost use Rattle.books.specs.Cells.{Square, PlainSound, cells-meaning, opened-cells};
 ghost use Rattle.books.specs.Plain.{held, cells-alter, plain-meaning, plain-sound, plain-alters, plain-lawful};
 use crate::book::Book;
 use crate::cell::Cell;
@@ -162,7 +162,9 @@ fn strike_in<F: Factor>(
 fn factor_in<F: Factor>(cells: &mut [Cell<F>], n: usize, a: usize, b: usize) -> Result<F, BookFault>
     requires { ⌜ PlainSound (F·Factor .ring .ops .zero) n (now cells) ⌝ }
     ensures answers { λ r. ⌜ r ≡ factoring (cells-meaning n (now (cells .entry))) a b ⌝ }
-    ensures same { λ _. ⌜ now (cells .exit) ≡ now (cells .entry) ⌝ }
+    ensures leaves { λ _. ⌜ cells-meaning n (now (cells .exit)) ≡ cells-meaning n (now (cells .entry)) ⌝ }
+    ensures keeps { λ _. ⌜ PlainSound (F·Factor .ring .ops .zero) n (now (cells .exit)) ⌝ }
+    ensures same { λ r. ⌜ cells-alter (query-effect r) n (now (cells .entry)) (now (cells .exit)) ⌝ }
 {
     check_pair(n, a, b)?;
     match line_at(cells, n, a, b) {
@@ -179,7 +181,9 @@ fn reach_in<F: Factor>(
 ) -> Result<bool, BookFault>
     requires { ⌜ PlainSound (F·Factor .ring .ops .zero) n (now cells) ⌝ }
     ensures answers { λ r. ⌜ r ≡ reaching (cells-meaning n (now (cells .entry))) a b ⌝ }
-    ensures same { λ _. ⌜ now (cells .exit) ≡ now (cells .entry) ⌝ }
+    ensures leaves { λ _. ⌜ cells-meaning n (now (cells .exit)) ≡ cells-meaning n (now (cells .entry)) ⌝ }
+    ensures keeps { λ _. ⌜ PlainSound (F·Factor .ring .ops .zero) n (now (cells .exit)) ⌝ }
+    ensures same { λ r. ⌜ cells-alter (query-effect r) n (now (cells .entry)) (now (cells .exit)) ⌝ }
 {
     check_pair(n, a, b)?;
     Ok(search(cells, n, a)[b])
@@ -193,7 +197,9 @@ fn support_in<F: Factor>(
 ) -> Result<u16, BookFault>
     requires { ⌜ PlainSound (F·Factor .ring .ops .zero) n (now cells) ⌝ }
     ensures answers { λ r. ⌜ r ≡ supporting (cells-meaning n (now (cells .entry))) a b ⌝ }
-    ensures same { λ _. ⌜ now (cells .exit) ≡ now (cells .entry) ⌝ }
+    ensures leaves { λ _. ⌜ cells-meaning n (now (cells .exit)) ≡ cells-meaning n (now (cells .entry)) ⌝ }
+    ensures keeps { λ _. ⌜ PlainSound (F·Factor .ring .ops .zero) n (now (cells .exit)) ⌝ }
+    ensures same { λ r. ⌜ cells-alter (query-effect r) n (now (cells .entry)) (now (cells .exit)) ⌝ }
 {
     check_pair(n, a, b)?;
     Ok(count_support(cells, n, a, b))
@@ -207,7 +213,9 @@ fn need_in<F: Factor>(
 ) -> Result<bool, BookFault>
     requires { ⌜ PlainSound (F·Factor .ring .ops .zero) n (now cells) ⌝ }
     ensures answers { λ r. ⌜ r ≡ needing (cells-meaning n (now (cells .entry))) a b ⌝ }
-    ensures same { λ _. ⌜ now (cells .exit) ≡ now (cells .entry) ⌝ }
+    ensures leaves { λ _. ⌜ cells-meaning n (now (cells .exit)) ≡ cells-meaning n (now (cells .entry)) ⌝ }
+    ensures keeps { λ _. ⌜ PlainSound (F·Factor .ring .ops .zero) n (now (cells .exit)) ⌝ }
+    ensures same { λ r. ⌜ cells-alter (query-effect r) n (now (cells .entry)) (now (cells .exit)) ⌝ }
 {
     check_pair(n, a, b)?;
     if line_at(cells, n, a, b).is_none() {
@@ -219,7 +227,9 @@ fn need_in<F: Factor>(
 fn total_in<F: Factor>(cells: &mut [Cell<F>], n: usize, a: usize, b: usize) -> Result<F, BookFault>
     requires { ⌜ PlainSound (F·Factor .ring .ops .zero) n (now cells) ⌝ }
     ensures answers { λ r. ⌜ r ≡ totalling (cells-meaning n (now (cells .entry))) a b (F·Factor .ring .ops) ⌝ }
-    ensures scratched { λ _. ⌜ Scratched n (now (cells .entry)) (now (cells .exit)) ⌝ }
+    ensures leaves { λ _. ⌜ cells-meaning n (now (cells .exit)) ≡ cells-meaning n (now (cells .entry)) ⌝ }
+    ensures keeps { λ _. ⌜ PlainSound (F·Factor .ring .ops .zero) n (now (cells .exit)) ⌝ }
+    ensures same { λ r. ⌜ cells-alter (query-effect r) n (now (cells .entry)) (now (cells .exit)) ⌝ }
 {
     check_pair(n, a, b)?;
     Ok(total_of(cells, n, a, b))
