@@ -1,76 +1,85 @@
 // The blocks of the tariff and the lines between them.
+use std::fmt;
 
-/// How many blocks the tariff has.
-pub const BLOCKS: usize = 6;
+/// The blocks, in the order of their numbers.
+#[derive(Clone, Copy)]
+pub enum Block {
+    DayFare,
+    AirportTrip,
+    BaseCharge,
+    Luggage,
+    AirportExtra,
+    Discount,
+}
 
-pub const DAY_FARE: usize = 0;
+pub impl fmt::Display for Block as BlockDisplay {
+    fn fmt<W: fmt::Write>(&self, f: &mut fmt::Formatter<W>) -> fmt::Result {
+        f.write_str(
+            match self {
+                Block::DayFare => "day fare",
+                Block::AirportTrip => "airport trip",
+                Block::BaseCharge => "base charge",
+                Block::Luggage => "luggage",
+                Block::AirportExtra => "airport extra",
+                Block::Discount => "discount",
+            },
+        )
+    }
+}
 
-pub const AIRPORT_TRIP: usize = 1;
-
-pub const BASE_CHARGE: usize = 2;
-
-pub const LUGGAGE: usize = 3;
-
-pub const AIRPORT_EXTRA: usize = 4;
-
-pub const DISCOUNT: usize = 5;
+/// Every block of the tariff.
+pub const BLOCKS: [Block; 6] = [
+    Block::DayFare,
+    Block::AirportTrip,
+    Block::BaseCharge,
+    Block::Luggage,
+    Block::AirportExtra,
+    Block::Discount,
+];
 
 /// One block takes in another as often as the factor says.
 #[derive(Clone, Copy)]
 pub struct Line {
-    pub upper: usize,
-    pub lower: usize,
+    pub upper: Block,
+    pub lower: Block,
     pub factor: i32,
 }
 
 /// The lines of the tariff.
 pub const LINES: [Line; 7] = [
     Line {
-        upper: DAY_FARE,
-        lower: BASE_CHARGE,
+        upper: Block::DayFare,
+        lower: Block::BaseCharge,
         factor: 1,
     },
     Line {
-        upper: DAY_FARE,
-        lower: LUGGAGE,
+        upper: Block::DayFare,
+        lower: Block::Luggage,
         factor: 2,
     },
     Line {
-        upper: AIRPORT_EXTRA,
-        lower: LUGGAGE,
+        upper: Block::AirportExtra,
+        lower: Block::Luggage,
         factor: 1,
     },
     Line {
-        upper: AIRPORT_TRIP,
-        lower: DAY_FARE,
+        upper: Block::AirportTrip,
+        lower: Block::DayFare,
         factor: 1,
     },
     Line {
-        upper: AIRPORT_TRIP,
-        lower: AIRPORT_EXTRA,
+        upper: Block::AirportTrip,
+        lower: Block::AirportExtra,
         factor: 3,
     },
     Line {
-        upper: AIRPORT_TRIP,
-        lower: LUGGAGE,
+        upper: Block::AirportTrip,
+        lower: Block::Luggage,
         factor: 4,
     },
     Line {
-        upper: AIRPORT_TRIP,
-        lower: DISCOUNT,
+        upper: Block::AirportTrip,
+        lower: Block::Discount,
         factor: -2,
     },
 ];
-
-/// What a block is called.
-pub fn name(block: usize) -> &'static str {
-    match block {
-        DAY_FARE => "day fare",
-        AIRPORT_TRIP => "airport trip",
-        BASE_CHARGE => "base charge",
-        LUGGAGE => "luggage",
-        AIRPORT_EXTRA => "airport extra",
-        DISCOUNT => "discount",
-        _ => "no block",
-    }
-}
