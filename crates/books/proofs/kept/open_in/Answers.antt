@@ -4,8 +4,8 @@ use Rattle.books.proofs.Openings.{sized_square}
 use Rattle.books.proofs.Squares.{square_small}
 use Rattle.books.proofs.kept.open_in.Goals as goal
 
-pub overflow-mul-opened : goal.overflow-mul-opened
-overflow-mul-opened g c =
+pub overflow_mul-opened : goal.overflow_mul-opened
+overflow_mul-opened g c =
     let opened = c.openable_size-opened in
     record { fits = omega (arith, square_small opened.result (sized_square c.args.size opened.result c.args.cells.now opened.ensures).small) }
 

@@ -7,8 +7,8 @@ use Rattle.books.proofs.Counts.{count_at_most, count_more_yes, count_more_no}
 use Rattle.books.proofs.plain.count_support.Goals as goal
 use Rattle.books.proofs.plain.count_support.Goals.{then-is_some+then-reached-l, else-is_some, else-is_some-via-then-is_some+else-reached-l, else-is_some-via-else-is_some}
 
-pub overflow-add-count : goal.overflow-add-count
-overflow-add-count g c =
+pub overflow_add-count : goal.overflow_add-count
+overflow_add-count g c =
     let m = cells_meaning c.args.n c.args.cells.now in
     let few = count_at_most c.loop-l.l (λ k. stands m k c.args.b && reaches m c.args.a k) in
     record { fits = omega (arith, few, c.loop-l.invariant, c.requires.square.small, c.loop-l-test.true) }

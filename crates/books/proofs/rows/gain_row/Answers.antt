@@ -18,8 +18,8 @@ loop-l-init g c =
     (raised_once n c.args.cells.now p.square.room c.args.i c.args.b p.row p.lower zero c.no_marks-gained.result places done.new.cells done.new.gained done.ensures.raises done.ensures.marks)
     p.circleless p.apart p.balance
 
-pub slice-bounds-first_marked-end : goal.slice-bounds-first_marked-end
-slice-bounds-first_marked-end g c = sym c.loop-l.invariant.places
+pub slice_bounds-first_marked-end : goal.slice_bounds-first_marked-end
+slice_bounds-first_marked-end g c = sym c.loop-l.invariant.places
 
 pub first_marked-requires : goal.first_marked-requires
 first_marked-requires g c = omega (arith, c.requires.square.small, c.loop-l.invariant.places)
@@ -27,8 +27,8 @@ first_marked-requires g c = omega (arith, c.requires.square.small, c.loop-l.inva
 pub bounds-gained-l : goal.bounds-gained-l
 bounds-gained-l g c = omega (arith, c.requires.square.small, c.loop-l.invariant.places, c.in-Some.ensures.0)
 
-pub slice-bounds-gain_block-end : goal.slice-bounds-gain_block-end
-slice-bounds-gain_block-end g c = sym (length-set c.loop-l.gained c.in-Some.l false ∙ c.loop-l.invariant.places)
+pub slice_bounds-gain_block-end : goal.slice_bounds-gain_block-end
+slice_bounds-gain_block-end g c = sym (length-set c.loop-l.gained c.in-Some.l false ∙ c.loop-l.invariant.places)
 
 pub gain_block-requires : goal.gain_block-requires
 gain_block-requires g c =
@@ -62,7 +62,7 @@ returns g c =
     let places : n ≤ length c.no_marks-gained.result = omega (arith, ap length c.no_marks-gained.ensures) in
     let first = set_rest n c.args.cells.now p.square.room c.args.i c.args.b p.row p.lower g.F.Factor.ring.ops.zero c.no_marks-gained.result places done.new.cells done.new.gained (noted_support n c.args.cells.now c.args.i c.args.b + 1) done.ensures.raises in
     record {
-      settles = row_gains_ends n c.args.i c.args.cells.now done.new.cells c.loop-l.cells c.loop-l.gained first c.in-default.ensures c.args.b c.loop-l.invariant;
+      settles = row_gains_ends n c.args.i c.args.cells.now done.new.cells c.loop-l.cells c.loop-l.gained first c.in_default.ensures c.args.b c.loop-l.invariant;
       rest = resupported_more n first c.loop-l.invariant.rest;
     }
 

@@ -29,8 +29,8 @@ loop-l-init g c =
     (lowered_once n c.args.cells.now p.square.room c.args.i c.args.b p.row p.lower zero c.no_marks-lost.result places done.new.cells done.new.lost some done.ensures.lowers done.ensures.marks)
     p.own p.balance
 
-pub slice-bounds-first_marked-end : goal.slice-bounds-first_marked-end
-slice-bounds-first_marked-end g c = sym c.loop-l.invariant.places
+pub slice_bounds-first_marked-end : goal.slice_bounds-first_marked-end
+slice_bounds-first_marked-end g c = sym c.loop-l.invariant.places
 
 pub first_marked-requires : goal.first_marked-requires
 first_marked-requires g c = omega (arith, c.requires.square.small, c.loop-l.invariant.places)
@@ -38,8 +38,8 @@ first_marked-requires g c = omega (arith, c.requires.square.small, c.loop-l.inva
 pub bounds-lost-l : goal.bounds-lost-l
 bounds-lost-l g c = omega (arith, c.requires.square.small, c.loop-l.invariant.places, c.in-Some.ensures.0)
 
-pub slice-bounds-lose_block-end : goal.slice-bounds-lose_block-end
-slice-bounds-lose_block-end g c = sym (length-set c.loop-l.lost c.in-Some.l false ∙ c.loop-l.invariant.places)
+pub slice_bounds-lose_block-end : goal.slice_bounds-lose_block-end
+slice_bounds-lose_block-end g c = sym (length-set c.loop-l.lost c.in-Some.l false ∙ c.loop-l.invariant.places)
 
 pub lose_block-requires : goal.lose_block-requires
 lose_block-requires g c =
@@ -73,6 +73,6 @@ returns g c =
     let places : n ≤ length c.no_marks-lost.result = omega (arith, ap length c.no_marks-lost.ensures) in
     let first = set_rest n c.args.cells.now p.square.room c.args.i c.args.b p.row p.lower g.F.Factor.ring.ops.zero c.no_marks-lost.result places done.new.cells done.new.lost (noted_support n c.args.cells.now c.args.i c.args.b - 1) done.ensures.lowers in
     record {
-      settles = row_loses_ends n c.args.i c.args.cells.now done.new.cells c.loop-l.cells c.loop-l.lost first c.in-default.ensures c.loop-l.invariant;
+      settles = row_loses_ends n c.args.i c.args.cells.now done.new.cells c.loop-l.cells c.loop-l.lost first c.in_default.ensures c.loop-l.invariant;
       rest = resupported_more n first c.loop-l.invariant.rest;
     }

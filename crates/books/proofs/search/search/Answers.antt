@@ -24,4 +24,4 @@ loop-l-preserved g c =
 
 pub returns : goal.returns
 returns g c =
-    search_ends (cells_meaning c.args.n c.args.cells.now) c.args.a (cells_bounded c.args.n c.args.cells.now) c.requires.circleless c.loop-l.seen c.loop-l.visited c.loop-l.invariant c.in-default.ensures
+    search_ends (cells_meaning c.args.n c.args.cells.now) c.args.a (cells_bounded c.args.n c.args.cells.now) c.requires.circleless c.loop-l.seen c.loop-l.visited c.loop-l.invariant c.in_default.ensures

@@ -4,8 +4,8 @@ use Rattle.books.specs.Cells.{blank_cell}
 use Rattle.books.proofs.Openings.{front_more}
 use Rattle.books.proofs.square.blank_cells.Goals as goal
 
-pub offset-bounds-cells-k : goal.offset-bounds-cells-k
-offset-bounds-cells-k g c = scaled_Fits c.loop-k.k (length c.args.cells.now) _ (omega (arith, c.requires, c.loop-k-test.true)) (search)
+pub offset_bounds-cells-k : goal.offset_bounds-cells-k
+offset_bounds-cells-k g c = scaled_Fits c.loop-k.k (length c.args.cells.now) _ (omega (arith, c.requires, c.loop-k-test.true)) (search)
 
 pub loop-k-preserved : goal.loop-k-preserved
 loop-k-preserved g c =

@@ -6,14 +6,14 @@ use Rattle.books.proofs.square.set_line.Goals as goal
 pub place-k-requires : goal.place-k-requires
 place-k-requires g c = record { square = c.requires.square; upper = c.requires.upper; lower = c.requires.lower }
 
-pub offset-bounds-cells-k : goal.offset-bounds-cells-k
-offset-bounds-cells-k g c = scaled_Fits c.place-k.result (length c.args.cells.now) _ c.place-k.ensures.within (search)
+pub offset_bounds-cells-k : goal.offset_bounds-cells-k
+offset_bounds-cells-k g c = scaled_Fits c.place-k.result (length c.args.cells.now) _ c.place-k.ensures.within (search)
 
 pub bounds-cells-k : goal.bounds-cells-k
 bounds-cells-k g c = c.place-k.ensures.within
 
-pub offset-bounds-cells-k-2 : goal.offset-bounds-cells-k-2
-offset-bounds-cells-k-2 g c = scaled_Fits c.place-k.result (length c.args.cells.now) _ c.place-k.ensures.within (search)
+pub offset_bounds-cells-k-2 : goal.offset_bounds-cells-k-2
+offset_bounds-cells-k-2 g c = scaled_Fits c.place-k.result (length c.args.cells.now) _ c.place-k.ensures.within (search)
 
 pub bounds-cells-k-2 : goal.bounds-cells-k-2
 bounds-cells-k-2 g c = c.place-k.ensures.within

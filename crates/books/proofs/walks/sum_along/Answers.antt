@@ -4,7 +4,7 @@ use Rattle.books.specs.Cells.{cells_meaning}
 use Rattle.books.specs.Walks.{noted_total, row_sum}
 use Rattle.books.proofs.Fillings.{sum_more}
 use Rattle.books.proofs.walks.sum_along.Goals as goal
-use Rattle.books.proofs.walks.sum_along.Goals.{in-Some, in-default}
+use Rattle.books.proofs.walks.sum_along.Goals.{in-Some, in_default}
 
 pub loop-c-preserved : goal.loop-c-preserved
 loop-c-preserved g c =
@@ -20,11 +20,11 @@ loop-c-preserved g c =
           ∙ ap₂ r.add c.loop-c.invariant (w.multiply.ensures ∙ ap (r.mul w.in-Some.factor) w.noted.ensures)
           ∙ ap (λ l. r.add (row_sum r c.args.n c.args.cells.now c.args.k c.args.a i) (along r l (note i))) (sym w.in-Some.is ∙ c.line_at.ensures)
           ∙ sym more
-      | in-default w ↦
+      | in_default w ↦
           w.sum-is
           ∙ c.loop-c.invariant
           ∙ sym (ring.laws.add-zero _)
-          ∙ ap (λ l. r.add (row_sum r c.args.n c.args.cells.now c.args.k c.args.a i) (along r l (note i))) (sym w.in-default.is ∙ c.line_at.ensures)
+          ∙ ap (λ l. r.add (row_sum r c.args.n c.args.cells.now c.args.k c.args.a i) (along r l (note i))) (sym w.in_default.is ∙ c.line_at.ensures)
           ∙ sym more
     ]
 
