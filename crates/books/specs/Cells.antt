@@ -12,9 +12,8 @@
 --   with_support, with_total   the cells with one support number, or one total, set anew
 --   Scratched        only support numbers and totals of the square have changed
 --   opened_cells     the cells of a new book
-use Rattle.std.specs.Prelude.{◌≡◌, ℕ, ◌+◌, ◌*◌, ◌<◌, ◌≤◌, Bool, true, false, cond, ◌&&◌, List, ◌++◌, map, length, get_or, drop, set, replicate, is_some, Some, None, Option, nat_lt, slice_index, slice_index_or, slice_set, refl}
+use Rattle.std.specs.Prelude.{◌≡◌, ℕ, ◌+◌, ◌*◌, ◌<◌, ◌≤◌, Bool, true, false, cond, ◌&&◌, List, ◌++◌, map, length, get_or, drop, replicate, is_some, Some, None, Option, nat_lt, slice_index, slice_index_or, slice_set, refl}
 use Rattle.std.proofs.lemmas.Bool.{and_parts, ltb-true}
-use Rattle.factors.specs.Ring.{Operations}
 use Rattle.books.specs.Graph.{Meaning, Bounded, Circleless}
 use Rattle.books.specs.declared.cell.Cell.{Cell}
 

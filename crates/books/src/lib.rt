@@ -1,4 +1,6 @@
 // Books of lines between blocks: what a book is, and its implementations over cells that the caller lends.
+#![tactic(auto)]
+
 pub mod book;
 pub mod cell;
 pub mod examples;

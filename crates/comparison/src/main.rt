@@ -1,4 +1,6 @@
 // The same calls on a kept and on a plain book, and every answer of the one compared with that of the other.
+#![tactic(auto)]
+
 mod agreement;
 mod answer;
 mod call;

@@ -1,4 +1,6 @@
 // Factor kinds: rings whose elements have codes of a fixed width.
+#![tactic(auto)]
+
 pub mod depth;
 pub mod factor;
 pub mod fault;

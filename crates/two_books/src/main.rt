@@ -1,4 +1,6 @@
 // A town's tariff from its first line to a change, told for a person from a kept and from a plain book.
+#![tactic(auto)]
+
 mod answer;
 mod question;
 mod tariff;
