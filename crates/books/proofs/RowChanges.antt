@@ -1,6 +1,6 @@
 -- The work set of a row, said of the cells: what its loop keeps, how it starts, turns and ends.
---   RowLosing, row-loses-..    blocks that a row loses
---   RowGaining, row-gains-..   blocks that a row gains
+--   RowLosing, row_loses_..    blocks that a row loses
+--   RowGaining, row_gains_..   blocks that a row gains
 use Rattle.std.proofs.Common.{◌≡◌, ℕ, ◌+◌, ◌<◌, ◌≤◌, Bool, true, false, not, ◌&&◌, ◌||◌, eqb, List, length, get_or, set, replicate, sym, refl, ap, ◌∙◌, subst, arith}
 use Rattle.std.proofs.lemmas.List.{length-set, get_or-replicate}
 use Rattle.std.proofs.lemmas.Bool.{eq-eqb}

@@ -1,6 +1,6 @@
 -- Steps of a loop over the columns of a row: one cell is set anew, and what the loop keeps goes on by one column.
 --   pair_set   what stands at a pair after one was set
---   with-support-.., resupported-..   only support numbers of one row change
+--   with_support_.., resupported_..   only support numbers of one row change
 --   lowered_once, raised_once   one support number steps
 --   steps_none, steps_left, steps_passed, steps_lower, steps_raise, steps_all   a row steps column by column
 --   steps_row, cleared_row   the row on its own

@@ -3,7 +3,7 @@
 --   cell_line        the line that a cell holds
 --   factor_or        the factor that is stored for a line
 --   lines, factors, supports, totals   one field of each cell of a list
---   noted_support   what stands as the support number of a pair
+--   noted_support    what stands as the support number of a pair
 --   cells_meaning    the book that the first n × n cells hold
 --   cells_bounded    its lines go only between blocks
 --   Square           there is a cell for each pair of blocks

@@ -1,7 +1,7 @@
 -- The kept book: what its cells hold, and the kept book as a book.
 --   kept_cell      what the cell of a pair holds
 --   KeptSound      the condition of a kept book
---   OnesUpto      totals of blocks to themselves are set to one
+--   OnesUpto       totals of blocks to themselves are set to one
 --   kept_held, kept_meaning, kept_sound   the cells of a kept book, the book that they hold, and its condition
 --   kept_cells_alter, kept_alters         what its calls leave beside the meaning
 --   kept_lawful    the laws of a book hold in it

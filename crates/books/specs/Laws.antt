@@ -1,9 +1,9 @@
 -- What the answers of a book mean: laws that hold in every book whose lines go between blocks and close no circle.
 --   Counted       how many numbers below a bound have a property
---   ReachLaw     reach is a chain of lines
---   SupportLaw   support numbers count lines
---   NeedLaw      a needed line has no chain of two lines or more beside it
---   TotalLaw     totals go on along each line from the upper block
+--   ReachLaw      reach is a chain of lines
+--   SupportLaw    support numbers count lines
+--   NeedLaw       a needed line has no chain of two lines or more beside it
+--   TotalLaw      totals go on along each line from the upper block
 use Rattle.std.specs.Prelude.{◌≡◌, ℕ, suc, ◌<◌, true, cond, Decides, ◌==◌}
 use Rattle.factors.specs.Ring.{Operations}
 use Rattle.books.specs.Graph.{Meaning, stands, Bounded, Chain, Reaches, Circleless, reaches, support, needed, sum_below, along, total}

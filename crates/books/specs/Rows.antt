@@ -7,7 +7,7 @@
 --   Stepped       support numbers that differ by one, with the marks of those that are 0 without it
 --   Resupported, Retotalled   only support numbers, or only totals, have changed
 --   with_chains, Added   chains over a line are added to a total, and to the totals of a row
---   RowAnswered  a row holds the support numbers and the totals of a book
+--   RowAnswered   a row holds the support numbers and the totals of a book
 --   Supported, Totalled   the rows so far hold those of the book that the cells hold
 --   HalfWorked, Working   a change of one line is worked into the rows so far
 use Rattle.std.specs.Prelude.{◌≡◌, ℕ, ◌+◌, ◌<◌, ◌≤◌, Bool, false, cond, ◌&&◌, ◌||◌, List, Option, ◌==◌, ◌≢◌, nat_lt, slice_index_or}

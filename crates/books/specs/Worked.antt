@@ -1,7 +1,7 @@
 -- Worked examples of the definitions: a book of four blocks with lines (0,1), (1,2) and (0,2).
 --   three_lines      that book
 --   number_of        the number that an answer is refused with, 0 if it is granted
---   WorkedExamples  the table
+--   WorkedExamples   the table
 use Rattle.std.specs.Prelude.{◌≡◌, ℕ, true, false, pos, negsuc, Some, Ok, Err, Result}
 use Rattle.factors.specs.Whole.{whole_of, whole_operations}
 use Rattle.factors.specs.Depth.{depth_of, depth_operations}
