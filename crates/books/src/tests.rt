@@ -7,7 +7,6 @@ use crate::plain::PlainBook;
 use crate::size::check_size;
 use factors::depth::Depth;
 use factors::whole::Whole;
-use std::process::Abort;
 use std::test::Fail;
 
 #[test]
@@ -72,10 +71,10 @@ fn a_book_that_is_not_opened_has_no_blocks(rt: HostRuntime) {
     assert_eq!(rt; book.reach(0, 0), Err(BookFault::NoBlock));
 }
 
-/// Asks about three lines, before and after one of them is struck.
-fn ask_about_three_lines<B: Book<Kind = Whole>>(rt: &impl Abort, book: &mut B) -> Result<(), Fail>
-    requires { B.Book.sound book.old }
-{
+#[test]
+fn a_kept_book_answers_before_and_after_a_strike(rt: HostRuntime) -> Result<(), Fail> {
+    let mut cells: [Cell<Whole>; 16] = [Cell::blank(); 16];
+    let mut book = KeptBook::open(&mut cells, 4);
     book.enter(0, 1, Whole::new(2))?;
     book.enter(1, 2, Whole::new(3))?;
     book.enter(0, 2, Whole::new(5))?;
@@ -90,10 +89,10 @@ fn ask_about_three_lines<B: Book<Kind = Whole>>(rt: &impl Abort, book: &mut B) -
     Ok(())
 }
 
-/// Makes calls that are refused, each for the first of its reasons.
-fn make_refused_calls<B: Book<Kind = Whole>>(rt: &impl Abort, book: &mut B) -> Result<(), Fail>
-    requires { B.Book.sound book.old }
-{
+#[test]
+fn a_kept_book_refuses_in_order(rt: HostRuntime) -> Result<(), Fail> {
+    let mut cells: [Cell<Whole>; 16] = [Cell::blank(); 16];
+    let mut book = KeptBook::open(&mut cells, 4);
     book.enter(0, 1, Whole::new(2))?;
     assert_eq!(rt; book.enter(4, 4, Whole::new(1)), Err(BookFault::NoBlock));
     assert_eq!(rt; book.enter(2, 2, Whole::new(1)), Err(BookFault::SameBlock));
@@ -104,11 +103,11 @@ fn make_refused_calls<B: Book<Kind = Whole>>(rt: &impl Abort, book: &mut B) -> R
     Ok(())
 }
 
-/// Multiplies depths along two chains.
-fn multiply_depths<B: Book<Kind = Depth>>(rt: &impl Abort, book: &mut B) -> Result<(), Fail>
-    requires { B.Book.sound book.old }
-{
+#[test]
+fn a_kept_book_multiplies_depths_along_chains(rt: HostRuntime) -> Result<(), Fail> {
     let step = Depth::new(0, 1, 0, 0);
+    let mut cells: [Cell<Depth>; 16] = [Cell::blank(); 16];
+    let mut book = KeptBook::open(&mut cells, 4);
     book.enter(0, 1, step)?;
     book.enter(1, 2, step)?;
     book.enter(0, 2, step)?;
@@ -116,34 +115,10 @@ fn multiply_depths<B: Book<Kind = Depth>>(rt: &impl Abort, book: &mut B) -> Resu
     Ok(())
 }
 
-/// Asks a book that has no blocks.
-fn ask_for_no_blocks<B: Book<Kind = Whole>>(rt: &impl Abort, book: &mut B)
-    requires { B.Book.sound book.old }
-{
-    assert_eq!(rt; book.size(), 0);
-    assert_eq!(rt; book.reach(0, 0), Err(BookFault::NoBlock));
-}
-
-#[test]
-fn a_kept_book_answers_before_and_after_a_strike(rt: HostRuntime) -> Result<(), Fail> {
-    let mut cells: [Cell<Whole>; 16] = [Cell::blank(); 16];
-    ask_about_three_lines(&rt, &mut KeptBook::open(&mut cells, 4))
-}
-
-#[test]
-fn a_kept_book_refuses_in_order(rt: HostRuntime) -> Result<(), Fail> {
-    let mut cells: [Cell<Whole>; 16] = [Cell::blank(); 16];
-    make_refused_calls(&rt, &mut KeptBook::open(&mut cells, 4))
-}
-
-#[test]
-fn a_kept_book_multiplies_depths_along_chains(rt: HostRuntime) -> Result<(), Fail> {
-    let mut cells: [Cell<Depth>; 16] = [Cell::blank(); 16];
-    multiply_depths(&rt, &mut KeptBook::open(&mut cells, 4))
-}
-
 #[test]
 fn a_kept_book_that_is_not_opened_has_no_blocks(rt: HostRuntime) {
     let mut cells: [Cell<Whole>; 3] = [Cell::blank(); 3];
-    ask_for_no_blocks(&rt, &mut KeptBook::open(&mut cells, 2));
+    let mut book = KeptBook::open(&mut cells, 2);
+    assert_eq!(rt; book.size(), 0);
+    assert_eq!(rt; book.reach(0, 0), Err(BookFault::NoBlock));
 }
