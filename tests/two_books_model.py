@@ -1,45 +1,11 @@
 """What the task of the walkthrough on two books must print, worked out from the published definitions alone.
 
-It shares no code with the crates: chains are listed one by one, a circle is looked for among them, and a total adds up
-the products along each. Run it from the project's root to compare with what is stored:
+As in the walkthrough's model, answers come from the chains, listed one by one. It is compared with what is stored by
 
     python3 tests/two_books_model.py | diff - crates/two_books/stdout
 """
 
-BLOCKS = ["day fare", "airport trip", "base charge", "luggage", "airport extra", "discount"]
-DAY_FARE, AIRPORT_TRIP, BASE_CHARGE, LUGGAGE, AIRPORT_EXTRA, DISCOUNT = range(6)
-TARIFF = [
-    (DAY_FARE, BASE_CHARGE, 1),
-    (DAY_FARE, LUGGAGE, 2),
-    (AIRPORT_EXTRA, LUGGAGE, 1),
-    (AIRPORT_TRIP, DAY_FARE, 1),
-    (AIRPORT_TRIP, AIRPORT_EXTRA, 3),
-    (AIRPORT_TRIP, LUGGAGE, 4),
-    (AIRPORT_TRIP, DISCOUNT, -2),
-]
-
-lines = {}
-
-
-def chains(upper, lower):
-    """Every chain of lines from one block to another, each as the list of its factors."""
-    found = [[]] if upper == lower else []
-    for (start, end), factor in sorted(lines.items()):
-        if start == upper:
-            found += [[factor] + rest for rest in chains(end, lower)]
-    return found
-
-
-def product(factors):
-    value = 1
-    for factor in factors:
-        value *= factor
-    return value
-
-
-def signed(value):
-    """The remainder of a whole number in signed 32 bits."""
-    return (value + 2**31) % 2**32 - 2**31
+from tariff_model import *
 
 
 def refused(number):

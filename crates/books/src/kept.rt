@@ -11,8 +11,8 @@ use crate::cell::Cell;
 use crate::fault::BookFault;
 use crate::rows::{enter_rows, reaches_at, strike_rows};
 use crate::square::{
-    blank_cells, check_pair, check_vacant, openable_size, set_line, set_total, standing_line,
-    support_at, total_at,
+    blank_cells, check_pair, check_vacant, noted, openable_size, set_line, set_total,
+    standing_line, support_at,
 };
 use factors::factor::Factor;
 
@@ -111,7 +111,7 @@ fn total_of<F: Factor>(cells: &[Cell<F>], n: usize, a: usize, b: usize) -> F
     requires lower { b < n }
     ensures { result ≡ total F.Factor.ring.ops (cells_meaning n cells.now) a b }
 {
-    total_at(cells, n, a, b)
+    noted(cells, n, a, b)
 }
 
 /// Whether `a` reaches `b`.

@@ -7,7 +7,7 @@ ghost use Rattle.books.specs.Rows.{one, counted, support_row, reached, Settled, 
 
 use crate::cell::Cell;
 use crate::marks::{first_marked, no_marks};
-use crate::square::{line_at, set_support, set_total, support_at, total_at};
+use crate::square::{line_at, noted, set_support, set_total, support_at};
 use factors::factor::Factor;
 
 /// Whether `a` reaches `b`, by the support number of the pair.
@@ -30,7 +30,7 @@ fn add_chain<F: Factor>(cells: &mut [Cell<F>], n: usize, i: usize, b: usize, j: 
     ensures leaves { reached b (support_row n cells.old b) j ≡ false → cells.new ≡ cells.old }
 {
     if reaches_at(cells, n, b, j) {
-        let total = total_at(cells, n, i, j).add(ahead.multiply(total_at(cells, n, b, j)));
+        let total = noted(cells, n, i, j).add(ahead.multiply(noted(cells, n, b, j)));
         set_total(cells, n, i, j, total);
     }
 }
@@ -85,7 +85,7 @@ fn add_chains<F: Factor>(cells: &mut [Cell<F>], n: usize, i: usize, a: usize, b:
     ensures adds { Added F.Factor.ring.ops n i b (F.Factor.ring.ops.mul (noted_total F.Factor.ring.ops n cells.old i a) factor) n cells.old cells.new }
     ensures rest { Retotalled F.Factor.ring.ops n i cells.old cells.new }
 {
-    let ahead = total_at(cells, n, i, a).multiply(factor);
+    let ahead = noted(cells, n, i, a).multiply(factor);
     for j in 0..n {
         add_chain(cells, n, i, b, j, ahead);
     }

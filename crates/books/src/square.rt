@@ -147,8 +147,8 @@ pub(crate) fn set_support<F: Factor>(
     cells[k].support = support;
 }
 
-/// The total of the pair `(a, b)`.
-pub(crate) fn total_at<F: Factor>(cells: &[Cell<F>], n: usize, a: usize, b: usize) -> F
+/// What is noted as the total of the pair `(a, b)`.
+pub(crate) fn noted<F: Factor>(cells: &[Cell<F>], n: usize, a: usize, b: usize) -> F
     requires square { Square n cells.now }
     requires upper { a < n }
     requires lower { b < n }

@@ -5,18 +5,8 @@ ghost use Rattle.books.specs.Cells.{Square, Scratched, cells_meaning};
 ghost use Rattle.books.specs.Walks.{Filled, noted_total, row_sum};
 
 use crate::cell::Cell;
-use crate::square::{line_at, place, set_total};
+use crate::square::{line_at, noted, set_total};
 use factors::factor::Factor;
-
-/// What is noted as the total of the pair `(a, b)`.
-fn noted<F: Factor>(cells: &[Cell<F>], n: usize, a: usize, b: usize) -> F
-    requires square { Square n cells.now }
-    requires upper { a < n }
-    requires lower { b < n }
-    ensures { result ≡ noted_total F.Factor.ring.ops n cells.now a b }
-{
-    cells[place(cells, n, a, b)].total
-}
 
 /// The sum over the lines from `a` of the factor times what row `k` notes for the lower block.
 fn sum_along<F: Factor>(cells: &[Cell<F>], n: usize, k: usize, a: usize) -> F

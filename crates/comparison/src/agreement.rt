@@ -1,5 +1,6 @@
 // Two books that are put the same calls: whether they answer alike.
-ghost use Rattle.std.specs.Prelude.{◌≡◌, Ok, Err};
+ghost use Rattle.std.specs.Prelude.{◌≡◌, Ok, Err, true, is_ok, IfOk};
+ghost use Rattle.comparison.specs.Answers.{answer_of, book_after};
 ghost use Rattle.comparison.specs.Counts.{counted};
 
 use crate::answer::{Answer, ask};
@@ -44,6 +45,9 @@ fn agree<F: Factor, K: Book<Kind = F>, P: Book<Kind = F>>(
     call: Call<F>,
 ) -> Result<Answer, Difference<F>>
     requires { (K.Book.sound kept.old) × (P.Book.sound plain.old) }
+    ensures answers { IfOk result (λ answer. answer ≡ answer_of F.Factor.ring.ops F.Factor.coding (K.Book.meaning kept.old) call) }
+    ensures alike { K.Book.meaning kept.old ≡ P.Book.meaning plain.old → is_ok result ≡ true }
+    ensures leaves { (K.Book.meaning kept.new ≡ book_after (K.Book.meaning kept.old) call) × (P.Book.meaning plain.new ≡ book_after (P.Book.meaning plain.old) call) }
     ensures keeps { (K.Book.sound kept.new) × (P.Book.sound plain.new) }
 {
     let kept_answer = ask(kept, call);
@@ -69,6 +73,7 @@ pub fn compare<F: Factor, K: Book<Kind = F>, P: Book<Kind = F>>(
 ) -> Result<Tally, Difference<F>>
     requires { (K.Book.sound kept.old) × (P.Book.sound plain.old) }
     ensures all { elim result [ Ok tally ↦ counted tally ≡ 5000 | Err _ ↦ Unit {0} ] }
+    ensures alike { K.Book.meaning kept.old ≡ P.Book.meaning plain.old → is_ok result ≡ true }
     ensures keeps { (K.Book.sound kept.new) × (P.Book.sound plain.new) }
 {
     let mut tally = Tally::none();

@@ -1,4 +1,7 @@
 // What a book answers to a call.
+ghost use Rattle.std.specs.Prelude.{◌≡◌};
+ghost use Rattle.comparison.specs.Answers.{told, answer_of, book_after};
+
 use crate::call::Call;
 use books::book::Book;
 use books::fault::BookFault;
@@ -39,6 +42,8 @@ impl fmt::Display for Answer {
 /// What a call is granted.
 fn granted<F: Factor, B: Book<Kind = F>>(book: &mut B, call: Call<F>) -> Result<Answer, BookFault>
     requires { B.Book.sound book.old }
+    ensures answers { told (λ answer. answer) result ≡ answer_of F.Factor.ring.ops F.Factor.coding (B.Book.meaning book.old) call }
+    ensures leaves { B.Book.meaning book.new ≡ book_after (B.Book.meaning book.old) call }
     ensures keeps { B.Book.sound book.new }
 {
     match call {
@@ -61,6 +66,8 @@ fn granted<F: Factor, B: Book<Kind = F>>(book: &mut B, call: Call<F>) -> Result<
 /// Puts one call to a book.
 pub fn ask<F: Factor, B: Book<Kind = F>>(book: &mut B, call: Call<F>) -> Answer
     requires { B.Book.sound book.old }
+    ensures answers { result ≡ answer_of F.Factor.ring.ops F.Factor.coding (B.Book.meaning book.old) call }
+    ensures leaves { B.Book.meaning book.new ≡ book_after (B.Book.meaning book.old) call }
     ensures keeps { B.Book.sound book.new }
 {
     match granted(book, call) {

@@ -1,5 +1,6 @@
 // Calls drawn from a sequence: pairs, factors, and the mix of the calls.
 ghost use Rattle.std.specs.Prelude.{◌≡◌, ◌^◌, ◌<◌, ◌≤◌};
+ghost use Rattle.comparison.specs.Answers.{pair_of};
 
 use crate::call::{Call, Pair};
 use crate::sequence::Sequence;
@@ -140,8 +141,11 @@ fn draw_factor<F: Factor>(sequence: &mut Sequence) -> F {
     }
 }
 
-/// A call, to a book of this size.
-pub fn draw_call<F: Factor>(sequence: &mut Sequence, size: u8) -> Call<F> {
+/// A call, to a book of this size: of its blocks, or of the first number that is none.
+pub fn draw_call<F: Factor>(sequence: &mut Sequence, size: u8) -> Call<F>
+    ensures upper { (pair_of result).upper ≤ size }
+    ensures lower { (pair_of result).lower ≤ size }
+{
     match CALL_MIX[sequence.below(CALL_MIX.len() as u64) as usize] {
         Name::Enter => Call::Enter(draw_line(sequence, size), draw_factor(sequence)),
         Name::Strike => Call::Strike(draw_line(sequence, size)),

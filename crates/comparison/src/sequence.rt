@@ -1,5 +1,6 @@
 // The fixed sequence of numbers that the calls are drawn from.
-ghost use Rattle.std.specs.Prelude.{◌≡◌, ◌+◌, ◌*◌, ◌/◌, ◌%◌, ◌^◌, ◌<◌};
+ghost use Rattle.std.specs.Prelude.{◌≡◌, ◌/◌, ◌%◌, ◌^◌, ◌<◌};
+ghost use Rattle.comparison.specs.Sequences.{following};
 
 // what takes a number of the sequence to the next one
 const MULTIPLIER: u64 = 6_364_136_223_846_793_005;
@@ -25,8 +26,8 @@ impl Sequence {
 
     /// The next number, any of 64 bits.
     pub fn next(&mut self) -> u64
-        ensures answers { result ≡ (self.old.state * 6364136223846793005 % 2 ^ 64 + 1442695040888963407) % 2 ^ 64 }
-        ensures steps { self.new.state ≡ result }
+        ensures answers { result ≡ following self.old.state }
+        ensures steps { self.new.state ≡ following self.old.state }
     {
         self.state = self.state.wrapping_mul(MULTIPLIER).wrapping_add(INCREMENT);
         self.state
@@ -35,8 +36,9 @@ impl Sequence {
     /// The next number, brought below a bound.
     pub fn below(&mut self, bound: u64) -> u64
         requires { 0 < bound }
-        ensures answers { result ≡ self.new.state / 2 ^ 32 % bound }
+        ensures answers { result ≡ following self.old.state / 2 ^ 32 % bound }
         ensures below { result < bound }
+        ensures steps { self.new.state ≡ following self.old.state }
     {
         (self.next() >> SHORT_BITS) % bound
     }

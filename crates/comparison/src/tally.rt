@@ -1,6 +1,6 @@
 // How often calls are granted, and how often they are refused by which number.
 ghost use Rattle.std.specs.Prelude.{◌≡◌, ◌+◌, ◌^◌, ◌<◌};
-ghost use Rattle.comparison.specs.Counts.{counted};
+ghost use Rattle.comparison.specs.Counts.{counted, tallying};
 
 mod grants;
 mod refusals;
@@ -20,7 +20,8 @@ pub struct Tally {
 impl Tally {
     /// No call counted yet.
     pub fn none() -> Tally
-        ensures { counted result ≡ 0 }
+        ensures calls { counted result ≡ 0 }
+        ensures sums { (result.grants.support_sum ≡ 0) × (result.grants.code_sum ≡ 0) }
     {
         Tally {
             grants: Grants::none(),
@@ -31,7 +32,8 @@ impl Tally {
     /// Counts one call by its answer.
     pub fn count(&mut self, answer: Answer)
         requires { counted self.old + 1 < 2 ^ 32 }
-        ensures { counted self.new ≡ counted self.old + 1 }
+        ensures counts { self.new ≡ tallying self.old answer }
+        ensures one { counted self.new ≡ counted self.old + 1 }
     {
         match answer {
             Answer::Entered => self.grants.count_entered(),

@@ -3,7 +3,6 @@
 
 mod answer;
 mod question;
-mod tariff;
 
 use answer::Answers;
 use books::book::Book;

@@ -1,10 +1,13 @@
 // What a book of the tariff is asked, and to do.
+ghost use Rattle.std.specs.Prelude.{◌≡◌};
+ghost use Rattle.two_books.specs.Answers.{told, answer_of, book_after};
+
 use crate::answer::Answer;
-use crate::tariff::{Block, Line};
 use books::book::Book;
 use books::fault::BookFault;
 use factors::whole::Whole;
 use std::fmt;
+use tariff::{Block, Line};
 
 /// A question to a book, or a change of it.
 #[derive(Clone, Copy)]
@@ -41,31 +44,33 @@ impl fmt::Display for Question {
 /// What a question is granted.
 fn granted<B: Book<Kind = Whole>>(book: &mut B, question: Question) -> Result<Answer, BookFault>
     requires { B.Book.sound book.old }
+    ensures answers { told (λ answer. answer) result ≡ answer_of (B.Book.meaning book.old) question }
+    ensures leaves { B.Book.meaning book.new ≡ book_after (B.Book.meaning book.old) question }
     ensures keeps { B.Book.sound book.new }
 {
     match question {
         Question::Enter(line) => {
             book.enter(
-                line.upper as usize,
-                line.lower as usize,
+                line.upper.number(),
+                line.lower.number(),
                 Whole::new(line.factor),
             )?;
             Ok(Answer::Entered)
         }
         Question::Strike { upper, lower } => {
-            book.strike(upper as usize, lower as usize)?;
+            book.strike(upper.number(), lower.number())?;
             Ok(Answer::Struck)
         }
         Question::Count { upper, lower } => {
-            let total = book.total(upper as usize, lower as usize)?.value();
-            let support = book.support(upper as usize, lower as usize)?;
+            let total = book.total(upper.number(), lower.number())?.value();
+            let support = book.support(upper.number(), lower.number())?;
             Ok(Answer::Counts { total, support })
         }
         Question::Rest { upper, lower } => {
-            Ok(Answer::Rests(book.reach(upper as usize, lower as usize)?))
+            Ok(Answer::Rests(book.reach(upper.number(), lower.number())?))
         }
         Question::Need { upper, lower } => {
-            Ok(Answer::Needed(book.need(upper as usize, lower as usize)?))
+            Ok(Answer::Needed(book.need(upper.number(), lower.number())?))
         }
     }
 }
@@ -73,6 +78,8 @@ fn granted<B: Book<Kind = Whole>>(book: &mut B, question: Question) -> Result<An
 /// Puts one question to a book.
 pub fn ask<B: Book<Kind = Whole>>(book: &mut B, question: Question) -> Answer
     requires { B.Book.sound book.old }
+    ensures answers { result ≡ answer_of (B.Book.meaning book.old) question }
+    ensures leaves { B.Book.meaning book.new ≡ book_after (B.Book.meaning book.old) question }
     ensures keeps { B.Book.sound book.new }
 {
     match granted(book, question) {

@@ -1,8 +1,6 @@
 // A town's tariff from its first line to a change, told for a person.
 #![tactic(auto)]
 
-mod tariff;
-
 use books::book::Book;
 use books::cell::Cell;
 use books::fault::BookFault;

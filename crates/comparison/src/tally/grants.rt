@@ -1,6 +1,7 @@
 // The granted calls, counted by their answers.
 ghost use Rattle.std.specs.Prelude.{◌≡◌, ◌+◌, ◌^◌, ◌<◌};
-ghost use Rattle.comparison.specs.Counts.{granted};
+ghost use Rattle.comparison.specs.Counts.{granted, granting};
+ghost use Rattle.comparison.specs.declared.answer.Answer.TheVariants.{Entered, Struck, Holds, Support, Code};
 
 use std::fmt;
 
@@ -20,7 +21,8 @@ pub struct Grants {
 impl Grants {
     /// No call counted yet.
     pub fn none() -> Grants
-        ensures { granted result ≡ 0 }
+        ensures calls { granted result ≡ 0 }
+        ensures sums { (result.support_sum ≡ 0) × (result.code_sum ≡ 0) }
     {
         Grants {
             entered: 0,
@@ -37,7 +39,8 @@ impl Grants {
     /// Counts a line that is entered.
     pub fn count_entered(&mut self)
         requires { granted self.old + 1 < 2 ^ 32 }
-        ensures { granted self.new ≡ granted self.old + 1 }
+        ensures counts { self.new ≡ granting self.old Entered }
+        ensures one { granted self.new ≡ granted self.old + 1 }
     {
         self.entered += 1;
     }
@@ -45,7 +48,8 @@ impl Grants {
     /// Counts a line that is struck.
     pub fn count_struck(&mut self)
         requires { granted self.old + 1 < 2 ^ 32 }
-        ensures { granted self.new ≡ granted self.old + 1 }
+        ensures counts { self.new ≡ granting self.old Struck }
+        ensures one { granted self.new ≡ granted self.old + 1 }
     {
         self.struck += 1;
     }
@@ -53,7 +57,8 @@ impl Grants {
     /// Counts a yes or a no.
     pub fn count_holds(&mut self, holds: bool)
         requires { granted self.old + 1 < 2 ^ 32 }
-        ensures { granted self.new ≡ granted self.old + 1 }
+        ensures counts { self.new ≡ granting self.old (Holds holds) }
+        ensures one { granted self.new ≡ granted self.old + 1 }
     {
         if holds {
             self.affirmed += 1;
@@ -65,7 +70,8 @@ impl Grants {
     /// Counts a support number.
     pub fn count_support(&mut self, lines: u16)
         requires { granted self.old + 1 < 2 ^ 32 }
-        ensures { granted self.new ≡ granted self.old + 1 }
+        ensures counts { self.new ≡ granting self.old (Support lines) }
+        ensures one { granted self.new ≡ granted self.old + 1 }
     {
         self.supports += 1;
         self.support_sum = self.support_sum.wrapping_add(u64::from(lines));
@@ -74,7 +80,8 @@ impl Grants {
     /// Counts a factor or a total.
     pub fn count_code(&mut self, code: u64)
         requires { granted self.old + 1 < 2 ^ 32 }
-        ensures { granted self.new ≡ granted self.old + 1 }
+        ensures counts { self.new ≡ granting self.old (Code code) }
+        ensures one { granted self.new ≡ granted self.old + 1 }
     {
         self.codes += 1;
         self.code_sum = self.code_sum.wrapping_add(code);

@@ -1,6 +1,6 @@
 // The refused calls, counted by what they are refused for.
 ghost use Rattle.std.specs.Prelude.{◌≡◌, ◌+◌, ◌^◌, ◌<◌};
-ghost use Rattle.comparison.specs.Counts.{refused};
+ghost use Rattle.comparison.specs.Counts.{refused, refusing};
 
 use books::fault::BookFault;
 use std::fmt;
@@ -32,7 +32,8 @@ impl Refusals {
     /// Counts one call.
     pub fn count(&mut self, fault: BookFault)
         requires { refused self.old + 1 < 2 ^ 32 }
-        ensures { refused self.new ≡ refused self.old + 1 }
+        ensures counts { self.new ≡ refusing self.old fault }
+        ensures one { refused self.new ≡ refused self.old + 1 }
     {
         match fault {
             BookFault::NoBlock => self.no_block += 1,

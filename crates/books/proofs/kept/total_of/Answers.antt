@@ -4,4 +4,4 @@ use Rattle.books.proofs.kept.total_of.Goals as goal
 
 pub returns : goal.returns
 returns g c =
-    c.total_at.ensures ∙ kept_totalled g.F.Factor.ring.ops c.args.n c.args.cells.now c.requires.sound c.args.a c.args.b c.requires.upper c.requires.lower
+    c.noted.ensures ∙ kept_totalled g.F.Factor.ring.ops c.args.n c.args.cells.now c.requires.sound c.args.a c.args.b c.requires.upper c.requires.lower

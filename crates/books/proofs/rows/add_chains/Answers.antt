@@ -13,6 +13,6 @@ pub returns : goal.returns
 returns g c =
     let r = g.F.Factor.ring.ops in
     let all : c.loop-j.j ≡ c.args.n = omega arith in
-    let worth = c.multiply-ahead.ensures ∙ ap (λ x. r.mul x c.args.factor) c.total_at.ensures in
+    let worth = c.multiply-ahead.ensures ∙ ap (λ x. r.mul x c.args.factor) c.noted.ensures in
     let Adds : g.row.F.Denot → ℕ → Type 0 = λ ahead p. Added r c.args.n c.args.i c.args.b ahead p c.args.cells.now c.loop-j.cells in
     record { adds = subst₂ Adds worth all c.loop-j.invariant.0; rest = c.loop-j.invariant.1 }

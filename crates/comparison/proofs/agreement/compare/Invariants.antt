@@ -1,7 +1,11 @@
--- Both books keep their condition, and every call so far is counted once.
+-- Both books keep their condition, books of the same lines keep the same ones, and every call so far is counted once.
 use Rattle.std.proofs.Common.{◌≡◌}
 use Rattle.comparison.specs.Counts.{counted}
 use Rattle.comparison.proofs.agreement.compare.Given as goal
 
 abbrev pub invariant-loop-earlier : goal.invariant-loop-earlier
-invariant-loop-earlier g l = g.K.Book.sound l.kept × g.P.Book.sound l.plain × (counted l.tally ≡ l.earlier)
+invariant-loop-earlier g l =
+    g.K.Book.sound l.kept
+    × g.P.Book.sound l.plain
+    × (g.K.Book.meaning l.initial.kept ≡ g.P.Book.meaning l.initial.plain → g.K.Book.meaning l.kept ≡ g.P.Book.meaning l.plain)
+    × (counted l.tally ≡ l.earlier)

@@ -1,5 +1,5 @@
 use Rattle.books.proofs.Squares.{total_read}
-use Rattle.books.proofs.square.total_at.Goals as goal
+use Rattle.books.proofs.square.noted.Goals as goal
 
 pub returns : goal.returns
 returns g c =

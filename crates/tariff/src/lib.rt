@@ -1,4 +1,9 @@
-// The blocks of the tariff and the lines between them.
+// The blocks of a town's tariff and the lines between them.
+#![tactic(auto)]
+
+ghost use Rattle.std.specs.Prelude.{◌≡◌};
+ghost use Rattle.tariff.specs.Blocks.{block_number};
+
 use std::fmt;
 
 /// The blocks, in the order of their numbers.
@@ -10,6 +15,15 @@ pub enum Block {
     Luggage,
     AirportExtra,
     Discount,
+}
+
+impl Block {
+    /// The number of the block in a book of the tariff.
+    pub fn number(self) -> usize
+        ensures { result ≡ block_number self }
+    {
+        self as usize
+    }
 }
 
 impl fmt::Display for Block {
