@@ -2,6 +2,7 @@
 --   granted  the granted ones
 --   refused  the refused ones
 --   counted  all of them
+--   no_grants, no_refusals, no_answers   nothing counted yet
 --   granting, refusing, tallying   the same with one answer more, under its own kind
 use Rattle.std.specs.Prelude.{ℕ, ◌+◌, ◌%◌, ◌^◌, true, false}
 use Rattle.books.specs.declared.fault.BookFault.{BookFault}
@@ -20,6 +21,15 @@ refused r = r.no_block + r.same_block + r.line_stands + r.circle + r.no_line
 
 abbrev pub counted : Tally → ℕ
 counted t = granted t.grants + refused t.refusals
+
+abbrev pub no_grants : Grants
+no_grants = record { entered = 0; struck = 0; affirmed = 0; denied = 0; supports = 0; support_sum = 0; codes = 0; code_sum = 0 }
+
+abbrev pub no_refusals : Refusals
+no_refusals = record { no_block = 0; same_block = 0; line_stands = 0; circle = 0; no_line = 0 }
+
+abbrev pub no_answers : Tally
+no_answers = record { grants = no_grants; refusals = no_refusals }
 
 -- the numbers in answers are added up in 64 bits
 abbrev pub granting : Grants → Answer → Grants

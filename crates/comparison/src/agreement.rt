@@ -1,7 +1,8 @@
 // Two books that are put the same calls: whether they answer alike.
-ghost use Rattle.std.specs.Prelude.{◌≡◌, Ok, Err, true, is_ok, IfOk};
+ghost use Rattle.std.specs.Prelude.{◌≡◌, ◌≢◌, Ok, Err, true, is_ok, IfOk};
 ghost use Rattle.comparison.specs.Answers.{answer_of, book_after};
 ghost use Rattle.comparison.specs.Counts.{counted};
+ghost use Rattle.comparison.specs.Runs.{Tallied};
 
 use crate::answer::{Answer, ask};
 use crate::call::Call;
@@ -47,6 +48,7 @@ fn agree<F: Factor, K: Book<Kind = F>, P: Book<Kind = F>>(
     requires { (K.Book.sound kept.old) × (P.Book.sound plain.old) }
     ensures answers { IfOk result (λ answer. answer ≡ answer_of F.Factor.ring.ops F.Factor.coding (K.Book.meaning kept.old) call) }
     ensures alike { K.Book.meaning kept.old ≡ P.Book.meaning plain.old → is_ok result ≡ true }
+    ensures differs { elim result [ Ok _ ↦ Unit {0} | Err difference ↦ difference.kept ≢ difference.plain ] }
     ensures leaves { (K.Book.meaning kept.new ≡ book_after (K.Book.meaning kept.old) call) × (P.Book.meaning plain.new ≡ book_after (P.Book.meaning plain.old) call) }
     ensures keeps { (K.Book.sound kept.new) × (P.Book.sound plain.new) }
 {
@@ -65,6 +67,7 @@ fn agree<F: Factor, K: Book<Kind = F>, P: Book<Kind = F>>(
 }
 
 /// Puts calls to two books of the same size, and counts the answers until one differs.
+#[tactic(auto, using(crate::proofs::Runs::tallied_none, crate::proofs::Runs::tallied_more))]
 pub fn compare<F: Factor, K: Book<Kind = F>, P: Book<Kind = F>>(
     kept: &mut K,
     plain: &mut P,
@@ -73,7 +76,9 @@ pub fn compare<F: Factor, K: Book<Kind = F>, P: Book<Kind = F>>(
 ) -> Result<Tally, Difference<F>>
     requires { (K.Book.sound kept.old) × (P.Book.sound plain.old) }
     ensures all { elim result [ Ok tally ↦ counted tally ≡ 5000 | Err _ ↦ Unit {0} ] }
+    ensures tallies { IfOk result (λ tally. Tallied F.Factor.ring.ops F.Factor.coding (K.Book.meaning kept.old) 5000 (K.Book.meaning kept.new) tally) }
     ensures alike { K.Book.meaning kept.old ≡ P.Book.meaning plain.old → is_ok result ≡ true }
+    ensures differs { elim result [ Ok _ ↦ Unit {0} | Err difference ↦ difference.kept ≢ difference.plain ] }
     ensures keeps { (K.Book.sound kept.new) × (P.Book.sound plain.new) }
 {
     let mut tally = Tally::none();

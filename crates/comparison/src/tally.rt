@@ -1,6 +1,6 @@
 // How often calls are granted, and how often they are refused by which number.
 ghost use Rattle.std.specs.Prelude.{◌≡◌, ◌+◌, ◌^◌, ◌<◌};
-ghost use Rattle.comparison.specs.Counts.{counted, tallying};
+ghost use Rattle.comparison.specs.Counts.{counted, no_answers, tallying};
 
 mod grants;
 mod refusals;
@@ -20,8 +20,7 @@ pub struct Tally {
 impl Tally {
     /// No call counted yet.
     pub fn none() -> Tally
-        ensures calls { counted result ≡ 0 }
-        ensures sums { (result.grants.support_sum ≡ 0) × (result.grants.code_sum ≡ 0) }
+        ensures { result ≡ no_answers }
     {
         Tally {
             grants: Grants::none(),

@@ -1,6 +1,6 @@
 // The granted calls, counted by their answers.
 ghost use Rattle.std.specs.Prelude.{◌≡◌, ◌+◌, ◌^◌, ◌<◌};
-ghost use Rattle.comparison.specs.Counts.{granted, granting};
+ghost use Rattle.comparison.specs.Counts.{granted, granting, no_grants};
 ghost use Rattle.comparison.specs.declared.answer.Answer.TheVariants.{Entered, Struck, Holds, Support, Code};
 
 use std::fmt;
@@ -21,8 +21,7 @@ pub struct Grants {
 impl Grants {
     /// No call counted yet.
     pub fn none() -> Grants
-        ensures calls { granted result ≡ 0 }
-        ensures sums { (result.support_sum ≡ 0) × (result.code_sum ≡ 0) }
+        ensures { result ≡ no_grants }
     {
         Grants {
             entered: 0,

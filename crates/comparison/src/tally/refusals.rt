@@ -1,6 +1,6 @@
 // The refused calls, counted by what they are refused for.
 ghost use Rattle.std.specs.Prelude.{◌≡◌, ◌+◌, ◌^◌, ◌<◌};
-ghost use Rattle.comparison.specs.Counts.{refused, refusing};
+ghost use Rattle.comparison.specs.Counts.{no_refusals, refused, refusing};
 
 use books::fault::BookFault;
 use std::fmt;
@@ -18,7 +18,7 @@ pub struct Refusals {
 impl Refusals {
     /// No call counted yet.
     pub fn none() -> Refusals
-        ensures { refused result ≡ 0 }
+        ensures { result ≡ no_refusals }
     {
         Refusals {
             no_block: 0,
