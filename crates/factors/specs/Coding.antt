@@ -1,7 +1,8 @@
 -- How the factors of a kind go out as numbers and come back.
 --   Coding    the width in bits, the code of a factor, the factor of a code, and that the two correspond one to one
 --   decoding  the answer to reading a code: its factor, or the refusal of a bit above the width
-use Rattle.std.specs.Prelude.{◌≡◌, ℕ, ◌^◌, ◌<◌, ◌≤◌, cond, Ok, Err, Result, nat_lt}
+use Rattle.std.specs.Prelude.{◌≡◌, ℕ, ◌^◌, ◌<◌, ◌≤◌, cond, Ok, Err, Result, nat_lt, List, ◌++◌, codes}
+use Rattle.std.specs.Fmt.{decimal}
 use Rattle.factors.specs.declared.fault.CodeFault.{CodeFault}
 use Rattle.factors.specs.declared.fault.CodeFault.TheVariants.{BitAboveWidth}
 
@@ -21,3 +22,7 @@ decoding c n = cond (nat_lt n (2 ^ c.width)) (Ok (c.factor n)) (Err BitAboveWidt
 -- the number that a refused code is reported by
 abbrev pub code_fault_number : CodeFault → ℕ
 code_fault_number BitAboveWidth = 13
+
+-- the text that it is printed as
+abbrev pub code_fault_text : CodeFault → List ℕ
+code_fault_text fault = codes "number " ++ decimal (code_fault_number fault)

@@ -1,7 +1,8 @@
 -- Depths: four numbers at the places 0 to 3, each modulo 4096, that multiply as sums of powers with the powers from the fourth on dropped.
 --   Places            four numbers of any size
 --   place_operations  zero, one, sum and product of four numbers
---   depth_of          the factor that is left of four numbers: the remainder of each modulo 4096
+--   rests             the remainder of each of four numbers modulo 4096
+--   depth_of          the factor that is left of four numbers: their remainders
 --   depth_places      the four numbers of a factor
 --   depth_operations  zero, one, sum and product
 --   depth_opposite    the opposite
@@ -9,12 +10,11 @@
 --   depth_coded       the factor of a code
 --   depth_ring        the operations with their laws
 --   depth_coding      the codes with their laws
---   depth_same        factors with the same numbers are the same
-use Rattle.std.specs.Prelude.{◌≡◌, ℕ, ◌+◌, ◌-◌, ◌*◌, ◌/◌, ◌%◌, ◌^◌, ◌<◌, refl}
-use Rattle.std.proofs.Math.Path.{PathP}
+--   depth_same, depth_same_places   factors with the same numbers, or the same list of them, are the same
+use Rattle.std.specs.Prelude.{◌≡◌, ℕ, ◌+◌, ◌-◌, ◌*◌, ◌/◌, ◌%◌, ◌^◌, ◌<◌, ◌≤◌, List, [], ◌∷◌, length, slice_index, zero, suc, refl}
 use mathlib.Core.HLevel.{is_prop→PathP}
 use Rattle.std.proofs.Math.Bridge.{le_prop}
-use Rattle.std.proofs.Common.{add-mul, mod-eq_of_lt, mod-lt, mul-add, mul_assoc, arith, lit<, lit≤}
+use Rattle.std.proofs.Common.{sym, ap, ◌∙◌, add-mul, mod-eq_of_lt, mod-lt, mul-add, mul_assoc, arith, lit<, lit≤}
 use Rattle.std.proofs.lemmas.Nat.{mod-pow-add}
 use Rattle.factors.specs.Ring.{Operations, Laws, Ring}
 use Rattle.factors.specs.Coding.{Coding}
@@ -39,17 +39,22 @@ place_operations = record {
   );
 }
 
+abbrev pub rests : Places → List ℕ
+rests p = p.0 % 4096 ∷ p.1 % 4096 ∷ p.2 % 4096 ∷ p.3 % 4096 ∷ []
+
+-- each is a remainder, and where there is no number the list is read as 0
+pub rest_below : (p : Places) (k : ℕ) → slice_index (rests p) k < 4096
+rest_below p zero = mod-lt p.0 (lit< tt)
+rest_below p (suc zero) = mod-lt p.1 (lit< tt)
+rest_below p (suc (suc zero)) = mod-lt p.2 (lit< tt)
+rest_below p (suc (suc (suc zero))) = mod-lt p.3 (lit< tt)
+rest_below p (suc (suc (suc (suc k)))) = lit< tt
+
 abbrev pub depth_of : Places → Depth
-depth_of p = record {
-  c0 = p.0 % 4096;
-  c1 = p.1 % 4096;
-  c2 = p.2 % 4096;
-  c3 = p.3 % 4096;
-  below = (mod-lt p.0 (lit< tt), mod-lt p.1 (lit< tt), mod-lt p.2 (lit< tt), mod-lt p.3 (lit< tt));
-}
+depth_of p = record { places = rests p; four = (lit≤ tt, lit≤ tt); below = rest_below p }
 
 abbrev pub depth_places : Depth → Places
-depth_places x = (x.c0, x.c1, x.c2, x.c3)
+depth_places x = (slice_index x.places 0, slice_index x.places 1, slice_index x.places 2, slice_index x.places 3)
 
 abbrev pub depth_operations : Operations Depth
 depth_operations = record {
@@ -60,40 +65,48 @@ depth_operations = record {
 }
 
 abbrev pub depth_opposite : Depth → Depth
-depth_opposite x = depth_of (4096 - x.c0, 4096 - x.c1, 4096 - x.c2, 4096 - x.c3)
+depth_opposite x = let p = depth_places x in depth_of (4096 - p.0, 4096 - p.1, 4096 - p.2, 4096 - p.3)
 
 abbrev pub depth_code : Depth → ℕ
-depth_code x = x.c0 * 2 ^ 36 + x.c1 * 2 ^ 24 + x.c2 * 2 ^ 12 + x.c3
+depth_code x = let p = depth_places x in p.0 * 2 ^ 36 + p.1 * 2 ^ 24 + p.2 * 2 ^ 12 + p.3
 
 abbrev pub depth_coded : ℕ → Depth
 depth_coded n = depth_of (n / 2 ^ 36, n / 2 ^ 24, n / 2 ^ 12, n)
 
 -- The laws
 
--- two proofs that a number is below 4096 are the same
-pub depth_same : (x y : Depth) → x.c0 ≡ y.c0 → x.c1 ≡ y.c1 → x.c2 ≡ y.c2 → x.c3 ≡ y.c3 → x ≡ y
-depth_same x y e f g h = λ i. record {
-  c0 = e i;
-  c1 = f i;
-  c2 = g i;
-  c3 = h i;
-  below = (below e x.below.0 y.below.0 i, below f x.below.1 y.below.1 i, below g x.below.2 y.below.2 i, below h x.below.3 y.below.3 i);
+-- two proofs that there are four numbers, or that each is below 4096, are the same
+pub depth_same_places : (x y : Depth) → x.places ≡ y.places → x ≡ y
+depth_same_places x y e = λ i. record {
+  places = e i;
+  four = (is_prop→PathP (λ j. 4 ≤ length (e j)) (λ j. le_prop) x.four.0 y.four.0 i, is_prop→PathP (λ j. length (e j) ≤ 4) (λ j. le_prop) x.four.1 y.four.1 i);
+  below = λ k. is_prop→PathP (λ j. slice_index (e j) k < 4096) (λ j. le_prop) (x.below k) (y.below k) i;
 }
-  where
-    below : {a b : ℕ} (e : a ≡ b) (p : a < 4096) (q : b < 4096) → PathP (λ j. e j < 4096) p q
-    below e p q = is_prop→PathP (λ j. e j < 4096) (λ j. le_prop) p q
 
 -- factors are the same where their numbers leave the same remainders
 pub depth_alike : (p q : Places) → Alike 4096 p.0 q.0 → Alike 4096 p.1 q.1 → Alike 4096 p.2 q.2 → Alike 4096 p.3 q.3 → depth_of p ≡ depth_of q
-depth_alike p q e f g h = depth_same _ _ e.rest f.rest g.rest h.rest
+depth_alike p q e f g h = depth_same_places _ _ (λ i. e.rest i ∷ f.rest i ∷ g.rest i ∷ h.rest i ∷ [])
+
+-- four remainders are what is left of them
+rests_again : (l : List ℕ) → length l ≡ 4 → ((k : ℕ) → slice_index l k < 4096) → rests (slice_index l 0, slice_index l 1, slice_index l 2, slice_index l 3) ≡ l
+rests_again (a ∷ b ∷ c ∷ d ∷ []) four below = λ i. mod-eq_of_lt (below 0) i ∷ mod-eq_of_lt (below 1) i ∷ mod-eq_of_lt (below 2) i ∷ mod-eq_of_lt (below 3) i ∷ []
+rests_again [] four below = cc
+rests_again (a ∷ []) four below = cc
+rests_again (a ∷ b ∷ []) four below = cc
+rests_again (a ∷ b ∷ c ∷ []) four below = cc
+rests_again (a ∷ b ∷ c ∷ d ∷ e ∷ l) four below = absurd (omega arith)
 
 -- a factor is what is left of its numbers
 pub depth_again : (x : Depth) → depth_of (depth_places x) ≡ x
-depth_again x = depth_same _ x (mod-eq_of_lt x.below.0) (mod-eq_of_lt x.below.1) (mod-eq_of_lt x.below.2) (mod-eq_of_lt x.below.3)
+depth_again x = depth_same_places _ x (rests_again x.places (omega arith) x.below)
 
 -- lists of four numbers are the same where the numbers are
 pub places_same : (p q : Places) → p.0 ≡ q.0 → p.1 ≡ q.1 → p.2 ≡ q.2 → p.3 ≡ q.3 → p ≡ q
 places_same p q e f g h = λ i. (e i, f i, g i, h i)
+
+-- factors with the same numbers are the same
+pub depth_same : (x y : Depth) → (depth_places x).0 ≡ (depth_places y).0 → (depth_places x).1 ≡ (depth_places y).1 → (depth_places x).2 ≡ (depth_places y).2 → (depth_places x).3 ≡ (depth_places y).3 → x ≡ y
+depth_same x y e f g h = sym (depth_again x) ∙ ap depth_of (places_same (depth_places x) (depth_places y) e f g h) ∙ depth_again y
 
 pub place_laws : Laws place_operations
 place_laws = record {
@@ -128,7 +141,10 @@ depth_image = record {
     product a b = alike_mul (alike_rest 4096 a) (alike_rest 4096 b)
 
 pub add_opposite : (x : Depth) → depth_operations.add x (depth_opposite x) ≡ depth_operations.zero
-add_opposite x = depth_same _ _ (omega arith) (omega arith) (omega arith) (omega arith)
+add_opposite x = depth_alike _ _ (none (x.below 0)) (none (x.below 1)) (none (x.below 2)) (none (x.below 3))
+  where
+    none : {a : ℕ} → a < 4096 → Alike 4096 (a + (4096 - a) % 4096) 0
+    none h = record { rest = omega arith }
 
 abbrev pub depth_ring : Ring Depth
 depth_ring = image_ring place_laws depth_image depth_opposite add_opposite
@@ -137,7 +153,7 @@ pub code_below : (x : Depth) → depth_code x < 2 ^ 48
 code_below x = omega arith
 
 pub coded_code : (x : Depth) → depth_coded (depth_code x) ≡ x
-coded_code x = depth_same _ x (omega arith) (omega arith) (omega arith) (omega arith)
+coded_code x = depth_alike _ (depth_places x) (record { rest = omega arith }) (record { rest = omega arith }) (record { rest = omega arith }) (record { rest = omega arith }) ∙ depth_again x
 
 pub code_coded : (n : ℕ) → n < 2 ^ 48 → depth_code (depth_coded n) ≡ n
 code_coded n h = omega (arith, mod-eq_of_lt h, mod-pow-add n 12 12, mod-pow-add n 12 24, mod-pow-add n 12 36)

@@ -1,15 +1,15 @@
 // The kind of depths: what a value holds.
-ghost use Rattle.std.specs.Prelude.{◌<◌};
+ghost use Rattle.std.specs.Prelude.{ℕ, ◌<◌, ◌≤◌, length, slice_index};
 
 mod kind;
 
 /// Four numbers, each a remainder modulo 4096.
 #[derive(Clone, Copy, PartialEq, Eq, Debug)]
 pub struct Depth {
-    c0: u16,
-    c1: u16,
-    c2: u16,
-    c3: u16,
-    // every place is a remainder, so that every value is a factor
-    ghost below: { (c0 < 4096) × (c1 < 4096) × (c2 < 4096) × (c3 < 4096) },
+    // the number at place 0 first
+    places: [u16; 4],
+    // four numbers, each a remainder, so that every value is a factor; the length has two bounds, since with an equation
+    // in their place no proof of `decode` is found
+    ghost four: { (4 ≤ length places) × (length places ≤ 4) },
+    ghost below: { (k : ℕ) → slice_index places k < 4096 },
 }

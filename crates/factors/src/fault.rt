@@ -1,12 +1,14 @@
 // The one refusal of a factor kind.
-ghost use Rattle.std.specs.Prelude.{◌≡◌};
-ghost use Rattle.factors.specs.Coding.{code_fault_number};
+ghost use Rattle.std.specs.Prelude.{◌≡◌, Some};
+ghost use Rattle.factors.specs.Coding.{code_fault_number, code_fault_text};
+
+use std::fmt;
 
 /// Why a code is not the code of a factor.
 #[derive(Clone, Copy, PartialEq, Eq, Debug)]
 pub enum CodeFault {
     /// A bit at or above the width of the kind's code is set.
-    BitAboveWidth,
+    BitAboveWidth = 13,
 }
 
 impl CodeFault {
@@ -14,8 +16,14 @@ impl CodeFault {
     pub fn number(self) -> u8
         ensures { result ≡ code_fault_number self }
     {
-        match self {
-            CodeFault::BitAboveWidth => 13,
-        }
+        self as u8
+    }
+}
+
+impl fmt::Display for CodeFault {
+    ghost output = { λ fault. Some (code_fault_text fault) };
+
+    fn fmt<W: fmt::Write>(&self, f: &mut fmt::Formatter<W>) -> fmt::Result {
+        write!(f, "number {}", self.number())
     }
 }

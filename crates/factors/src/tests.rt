@@ -3,6 +3,7 @@ use crate::depth::Depth;
 use crate::factor::Factor;
 use crate::fault::CodeFault;
 use crate::whole::Whole;
+use std::alloc::AllocError;
 
 #[test]
 fn whole_numbers_wrap(rt: HostRuntime) {
@@ -69,4 +70,11 @@ fn depths_have_codes(rt: HostRuntime) {
 #[test]
 fn a_bit_above_the_width_is_thirteen(rt: HostRuntime) {
     assert_eq!(rt; CodeFault::BitAboveWidth.number(), 13);
+}
+
+#[test]
+fn a_refused_code_prints_its_number(rt: HostRuntime) -> Result<(), AllocError> {
+    let text = CodeFault::BitAboveWidth.to_string(rt.alloc())?;
+    assert_eq!(rt; text.as_str(), "number 13");
+    Ok(())
 }

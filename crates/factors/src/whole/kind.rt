@@ -1,8 +1,8 @@
 // Whole numbers as a factor kind.
-ghost use Rattle.std.specs.Prelude.{◌≡◌, ◌+ℤ◌, ◌*ℤ◌, neg_ℤ};
+ghost use Rattle.std.specs.Prelude.{◌≡◌, refl};
 ghost use Rattle.factors.specs.Whole.{whole_of, whole_coded, whole_ring, whole_coding};
 
-use crate::factor::Factor;
+use crate::factor::{Factor, check_width};
 use crate::fault::CodeFault;
 use crate::whole::Whole;
 
@@ -12,7 +12,7 @@ impl Whole {
         ensures made { result ≡ whole_of value }
         ensures same { result.value ≡ value }
     {
-        of_value(value)
+        Whole { value }
     }
 
     /// The value of the factor.
@@ -23,70 +23,45 @@ impl Whole {
     }
 }
 
-fn of_value(value: i32) -> Whole
-    ensures made { result ≡ whole_of value }
-    ensures same { result.value ≡ value }
-{
-    Whole { value }
-}
-
-// The factor that is left of the sum of two values.
-fn sum(x: i32, y: i32) -> Whole
-    ensures { result ≡ whole_of (x +ℤ y) }
-{
-    of_value(x.wrapping_add(y))
-}
-
-// The factor that is left of the opposite of a value.
-fn negated(x: i32) -> Whole
-    ensures { result ≡ whole_of (neg_ℤ x) }
-{
-    of_value(x.wrapping_neg())
-}
-
-// The factor that is left of the product of two values.
-fn product(x: i32, y: i32) -> Whole
-    ensures { result ≡ whole_of (x *ℤ y) }
-{
-    of_value(x.wrapping_mul(y))
-}
-
-// The factor whose code is this pattern.
+// The factor whose code is this pattern; in one piece with `decode` no proof is found.
+#[tactic(auto, using(crate::specs::Whole::whole_same, crate::specs::Whole::coded_value))]
 fn of_pattern(pattern: u32) -> Whole
     ensures { result ≡ whole_coded pattern }
 {
-    of_value(i32::from_be_bytes(pattern.to_be_bytes()))
+    Whole::new(i32::from_be_bytes(pattern.to_be_bytes()))
 }
 
 impl Factor for Whole {
     const WIDTH: u32 = 32;
 
+    ghost WIDTH = { 32 };
+
     ghost ring = { whole_ring };
 
     ghost coding = { whole_coding };
 
+    ghost wide = { refl };
+
     fn zero() -> Whole {
-        of_value(0)
+        Whole::new(0)
     }
 
     fn one() -> Whole {
-        of_value(1)
+        Whole::new(1)
     }
 
+    #[tactic(auto, using(crate::specs::Whole::whole_same, std::proofs::lemmas::Int::wraps))]
     fn add(self, other: Whole) -> Whole {
-        sum(self.value, other.value)
+        Whole::new(self.value.wrapping_add(other.value))
     }
 
+    #[tactic(auto, using(crate::specs::Whole::whole_same, std::proofs::lemmas::Int::wraps))]
     fn opposite(self) -> Whole {
-        negated(self.value)
+        Whole::new(self.value.wrapping_neg())
     }
 
     fn multiply(self, other: Whole) -> Whole {
-        product(self.value, other.value)
-    }
-
-    fn code_width() -> u32 {
-        Self::WIDTH
+        Whole::new(self.value.wrapping_mul(other.value))
     }
 
     fn code(self) -> u64 {
@@ -94,9 +69,7 @@ impl Factor for Whole {
     }
 
     fn decode(code: u64) -> Result<Whole, CodeFault> {
-        if code >> Self::WIDTH != 0 {
-            return Err(CodeFault::BitAboveWidth);
-        }
+        check_width(code, Self::WIDTH)?;
         Ok(of_pattern(code as u32))
     }
 }
