@@ -1,6 +1,6 @@
 -- Chains over a changed line are added to the totals of a row, column by column.
---   retotalled_none, retotalled_more   only totals of one row change
---   added_none, added_more   what the loop keeps
+--   retotalled_more   only totals of one row change
+--   added_more   what the loop keeps
 use Rattle.std.proofs.Common.{◌≡◌, ℕ, ◌+◌, ◌*◌, ◌<◌, ◌≤◌, Bool, true, false, cond, ◌&&◌, eqb, ltb, ◌⊎◌, List, length, get_or, set, sym, refl, ap, ◌∙◌, subst, ap₂, inl, inr, arith}
 use Rattle.std.proofs.lemmas.List.{map-set, set-get_or, get_or-map, length-map}
 use Rattle.std.proofs.lemmas.Bool.{cases_eq, cases_Bool, and_from, and_left, and_right, cond-true, cond-false, eq-eqb, ne_eqb, lt-ltb, le-ltb}
@@ -15,13 +15,6 @@ use Rattle.books.proofs.Squares.{place_below}
 use Rattle.books.proofs.Steps.{pair_set}
 
 module _ {F : Type 0} (r : Operations F) (n : ℕ) where
-  pub retotalled_none : (i : ℕ) (cells : List (Cell F)) → Retotalled r n i cells cells
-  retotalled_none i cells = record {
-    scratched = record { same_lines = refl; same_factors = refl; beyond = refl };
-    same_supports = refl;
-    same_rows = λ k j row column other. refl;
-  }
-
   retotalled_more : {i : ℕ} {before between after : List (Cell F)} → Retotalled r n i before between → Retotalled r n i between after → Retotalled r n i before after
   retotalled_more p q = record {
     scratched = scratched_more p.scratched q.scratched;
@@ -49,9 +42,6 @@ module _ {F : Type 0} (r : Operations F) (n i b : ℕ) (ahead : F) where
   -- what stands in a column once the chains are added, or before
   abbrev due : List (Cell F) → Bool → ℕ → F
   due start t l = cond t (with_chains r n start i b ahead l) (noted_total r n start i l)
-
-  pub added_none : (start : List (Cell F)) → Added r n i b ahead 0 start start
-  added_none start l below = sym (cond-false _ _ _ (and_left _ _ (le-ltb l 0 (omega arith))))
 
   module _ (row : i < n) (lower : b < n) (apart : i ≡ b → ⊥) (j : ℕ) (column : j < n) (start cells next : List (Cell F)) (room : n * n ≤ length cells) (added : Added r n i b ahead j start cells) (rest : Retotalled r n i start cells) where
     here : noted_total r n cells i j ≡ noted_total r n start i j

@@ -2,7 +2,7 @@
 --   count_lined   one line more among those that are counted
 --   reaches_apart, support_apart   a block that does not reach the line
 use Rattle.std.proofs.Common.{◌≡◌, ℕ, ◌+◌, ◌*◌, ◌<◌, ◌≤◌, Bool, true, false, cond, ◌&&◌, ◌||◌, eqb, ltb, ◌⊎◌, List, length, get_or, is_some, Some, None, Decides, Option, sym, refl, ap, ◌∙◌, subst, ap₂, inl, inr, arith}
-use Rattle.std.proofs.lemmas.Bool.{both_ways, cases_eq, eq-eqb, ne_eqb, and_parts, and_from, and_left, and_right, cond-true, cond-false, lt-ltb}
+use Rattle.std.proofs.lemmas.Bool.{both_ways, false_from_ne_true, cases_eq, eq-eqb, ne_eqb, and_parts, and_from, and_left, and_right, cond-true, cond-false, lt-ltb}
 use Rattle.std.proofs.lemmas.Bool.Decides.{same_from_decides, not_from_Decides, Decides-at}
 use Rattle.factors.specs.Ring.{Operations, Ring}
 use Rattle.books.specs.Graph.{Meaning, with_line, stands, Bounded, Chain, Reaches, Circleless, count_below, reaches, support, total}
@@ -11,7 +11,7 @@ use Rattle.books.specs.Cells.{Scratched, totals, noted_support, cells_meaning}
 use Rattle.books.specs.Walks.{noted_total}
 use Rattle.books.specs.Rows.{one, counted, support_row, reached, Settled, with_chains, Added, RowAnswered, HalfWorked}
 use Rattle.books.specs.declared.cell.Cell.{Cell}
-use Rattle.books.proofs.Counts.{count_none, false_unless}
+use Rattle.books.proofs.Counts.{count_none}
 use Rattle.books.proofs.Chains.{reaches_append, chain_onward, reaches_decides, reaches_chain, chain_reaches, entered_chain, chain_among, with_line_stands, strike_circleless, with_line_bounded, relined_again, struck_apart}
 use Rattle.books.proofs.ChangedTotals.{entered_total, struck_total}
 use Rattle.books.proofs.Sums.{add_none, zero_mul, mul_zero}
@@ -39,7 +39,7 @@ count_lined n a b s t p upper passes line none same j = elim (cases_eq j b) [
 pub support_own : {F : Type 0} (m : Meaning F) → Bounded m → Circleless m → (i : ℕ) → support m i i ≡ 0
 unfolding support
 support_own m bounded circleless i =
-    count_none m.size (λ l. stands m l i && reaches m i l) (λ l below. false_unless _ (λ e.
+    count_none m.size (λ l. stands m l i && reaches m i l) (λ l below. false_from_ne_true _ (λ e.
     let (line, r) = and_parts (stands m l i) (reaches m i l) e in
     let (k, d) = reaches_chain m bounded circleless i l r in
     circleless k i (chain_onward d line)))
@@ -217,7 +217,7 @@ module _ {F : Type 0} (r : Ring F) (n : ℕ) (cells : List (Cell F)) (a b : ℕ)
 
       pub entered_apart : is_some was ≡ false → stands m a b ≡ true → reaches m b i ≡ false
       entered_apart none line =
-          false_unless (reaches m b i) (λ e.
+          false_from_ne_true (reaches m b i) (λ e.
           let (k, d) = reaches_chain m changed.bounded changed.circleless b i e in
           let (l, c) = (row_reaches a upper).0 at in
           let (p, w) = reaches_append (k, d) (l, chain_among m₀ m among c) in

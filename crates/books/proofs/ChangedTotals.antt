@@ -3,11 +3,10 @@
 --   entered_total   what a new line adds: the totals to its upper block times its factor times those from its lower block
 --   struck_total   what a struck line takes away: the same, with the opposite factor
 use Rattle.std.proofs.Common.{◌≡◌, ℕ, zero, suc, ◌<◌, Bool, true, false, cond, ◌&&◌, eqb, is_some, Some, None, Option, sym, refl, ap, ◌∙◌, ap₂, lt_irrefl}
-use Rattle.std.proofs.lemmas.Bool.{eq-eqb, eqb-true, ne_eqb, and_parts, and_from, and_right, cond-true, cond-false}
+use Rattle.std.proofs.lemmas.Bool.{false_from_ne_true, eq-eqb, eqb-true, ne_eqb, and_parts, and_from, and_right, cond-true, cond-false}
 use Rattle.factors.specs.Ring.{Ring}
 use Rattle.books.specs.Graph.{Meaning, with_line, Bounded, Chain, Reaches, Circleless, reaches, along, total}
 use Rattle.books.specs.Graph.Chain.{empty, then}
-use Rattle.books.proofs.Counts.{false_unless}
 use Rattle.books.proofs.Chains.{chain_short, reaches_chain, relined_again, with_line_bounded, strike_circleless, struck_apart, enter_circleless}
 use Rattle.books.proofs.Sums.{sum, zero-add, add_none, mul_zero, zero_mul, add_undone, sum_same, sum_add, sum_mul, sum_only}
 use Rattle.books.proofs.Totals.{along_same, along_add, along_times, total_no_chain, total_from_lines}
@@ -87,7 +86,7 @@ module _ {F : Type 0} (r : Ring F) where
     entered_total none apart f i j h =
         sym (total_unique (with_line m a b (Some f)) (with_line_bounded m a b (Some f) bounded upper lower)
         (enter_circleless m a b (Some f) bounded circleless
-        (false_unless (reaches m b a) (λ t. apart (reaches_chain m bounded circleless b a t))))
+        (false_from_ne_true (reaches m b a) (λ t. apart (reaches_chain m bounded circleless b a t))))
         j x solves i h)
         ∙ ap (λ u. T m i j ⊕ u) (sym (r.laws.mul_assoc (T m i a) f (T m b j)))
       where

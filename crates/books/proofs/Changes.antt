@@ -2,12 +2,13 @@
 use Rattle.std.proofs.Common.{◌≡◌, ℕ, ◌+◌, ◌*◌, ◌<◌, ◌≤◌, Bool, true, false, cond, ◌&&◌, eqb, ltb, List, map, length, get_or, set, Some, None, Option, sym, refl, ap, ◌∙◌, subst, ap₂, ⊎_elim, arith}
 use mathlib.Core.Path.{fun_ext}
 use Rattle.std.proofs.lemmas.List.{map-set, length-set, length-map, get_or-set_same, get_or-set_other}
+use Rattle.std.proofs.lemmas.Nat.{same_from_place}
 use Rattle.std.proofs.lemmas.Bool.{and_parts, and_from, cond-true, cond-false, cases_eq, eqb-true, eq-eqb, ltb-true, false≢true}
-use Rattle.books.specs.Graph.{Meaning, Circleless, Safe, with_line}
-use Rattle.books.specs.Cells.{PlainSound, blank_cell, cell_line, factor_or, lines, factors, lines_meaning, cells_meaning, with_cell_line, relined}
+use Rattle.books.specs.Graph.{Meaning, Circleless, Free, with_line}
+use Rattle.books.specs.Cells.{PlainSound, blank_cell, cell_line, factor_or, lines, factors, lines_meaning, cells_meaning, cells_bounded, with_cell_line, relined}
 use Rattle.books.specs.declared.cell.Cell.{Cell}
-use Rattle.books.proofs.Chains.{strike_circleless}
-use Rattle.books.proofs.Squares.{inside, place_below, place_apart}
+use Rattle.books.proofs.Chains.{strike_circleless, enter_circleless}
+use Rattle.books.proofs.Squares.{inside, place_below}
 
 -- the line of the pair (i,j) among the noted ones
 abbrev placed : {F : Type 0} → ℕ → List (Option F) → ℕ → ℕ → Option F
@@ -20,6 +21,12 @@ line_set zero c None = refl
 factor_set : {F : Type 0} (zero : F) (c : Cell F) (o : Option F) → (with_cell_line zero c o).factor ≡ factor_or zero o
 factor_set zero c (Some f) = refl
 factor_set zero c None = refl
+
+-- a line that may be set closes no circle
+pub free_circleless : {F : Type 0} (n : ℕ) (cells : List (Cell F)) (a b : ℕ) (o : Option F) → Circleless (cells_meaning n cells)
+    → Free (cells_meaning n cells) a b o → Circleless (with_line (cells_meaning n cells) a b o)
+free_circleless n cells a b (Some f) circleless apart = enter_circleless (cells_meaning n cells) a b (Some f) (cells_bounded n cells) circleless apart
+free_circleless n cells a b None circleless free = strike_circleless (cells_meaning n cells) a b circleless
 
 module _ {F : Type 0} (zero : F) (n : ℕ) (cells : List (Cell F)) (room : n * n ≤ length cells) (a b : ℕ) (upper : a < n) (lower : b < n) (o : Option F) where
   relined_lines : lines (relined zero cells (a * n + b) o) ≡ set (lines cells) (a * n + b) o
@@ -51,7 +58,7 @@ module _ {F : Type 0} (zero : F) (n : ℕ) (cells : List (Cell F)) (room : n * n
       at i j false other true ranged =
           let (_, below) = and_parts (ltb i n) (ltb j n) ranged in
           let apart : i * n + j ≡ a * n + b → ⊥ = λ same.
-          let (upper_is, lower-is) = place_apart n i j a b (ltb-true j n below) lower same in
+          let (upper_is, lower-is) = same_from_place i j a b n (ltb-true j n below) lower same in
           false≢true (sym other ∙ and_from _ _ (eq-eqb i a upper_is) (eq-eqb j b lower-is)) in
           ap (λ ls. placed n ls i j) relined_lines
           ∙ ap (λ l. cond (ltb i n && ltb j n) l None) (get_or-set_other (lines cells) (a * n + b) (i * n + j) o None apart)
@@ -84,10 +91,8 @@ module _ {F : Type 0} (zero : F) (n : ℕ) (cells : List (Cell F)) (room : n * n
       circleless = subst (λ (m : Meaning F). Circleless m) (sym relined_meaning) circleless;
     }
 
-    -- to set a line anew is safe where it closes no circle
-    pub change_sound : Safe (cells_meaning n cells) a b o → PlainSound zero n (relined zero cells (a * n + b) o)
-    change_sound safe = relined_sound (closes_none o safe)
-      where
-        closes_none : (l : Option F) → Safe (cells_meaning n cells) a b l → Circleless (with_line (cells_meaning n cells) a b l)
-        closes_none (Some f) closes = closes
-        closes_none None closes = strike_circleless (cells_meaning n cells) a b sound.circleless
+    -- to set a line that may be set keeps the condition
+    pub change_sound : (next : List (Cell F)) → next ≡ relined zero cells (a * n + b) o → Free (cells_meaning n cells) a b o → PlainSound zero n next
+    change_sound next lined free =
+        let Plain : List (Cell F) → Type 0 = PlainSound zero n in
+        subst Plain (sym lined) (relined_sound (free_circleless n cells a b o sound.circleless free))

@@ -2,11 +2,14 @@
 --   any_decides_of, any_decides, any_found, any_here   whether one passes
 --   count_at_most, count_none, count_some   how many pass
 --   count_only, count_unique, count_one_decides   just one passes
---   count_more_yes, count_more_no   one number more
 --   count_counted   the count, said of a property that the test decides
-use Rattle.std.proofs.Common.{◌≡◌, ℕ, zero, suc, ◌+◌, ◌<◌, ◌≤◌, Bool, true, false, cond, eqb, Decides, sym, refl, ap, ◌∙◌, inl, inr, zero-add, add-one, one-add, arith}
-use Rattle.std.proofs.lemmas.Bool.{both_ways, cases_Bool, cases_eq, eq-eqb, eqb-true}
-use Rattle.std.proofs.lemmas.Bool.Decides.{Decides-below_or, not_from_Decides}
+--   count_range   the count, taken along the list of the numbers
+use Rattle.std.proofs.Common.{◌≡◌, ℕ, zero, suc, ◌+◌, ◌<◌, ◌≤◌, Bool, true, false, cond, eqb, Decides, sym, refl, ap, ◌∙◌, inl, inr, zero-add, add-one, one-add, add_comm, map, arith}
+use Rattle.std.specs.List.{count_by, sum_by, range_with_len}
+use Rattle.std.proofs.lemmas.List.{map-id}
+use Rattle.std.proofs.lemmas.List.FromFn.{sum_by-map-range_with_len_more}
+use Rattle.std.proofs.lemmas.Bool.{both_ways, false_from_ne_true, cases_Bool, cases_eq, eq-eqb, eqb-true}
+use Rattle.std.proofs.lemmas.Bool.Decides.{Decides-below_or, not_from_Decides, nat_tests}
 use Rattle.books.specs.Graph.{any_below, count_below}
 use Rattle.books.specs.Laws.{Counted}
 use Rattle.books.specs.Laws.Counted.{none, counted, passed}
@@ -30,7 +33,7 @@ any_here n p k h e = (any_decides n p).1 (k, h, e)
 
 pub count_at_most : (n : ℕ) (p : ℕ → Bool) → count_below n p ≤ n
 count_at_most zero p = omega arith
-count_at_most (suc n) p = let h = count_at_most n p in elim (cases_Bool (p n)) [ inl e ↦ rw e (omega arith) | inr e ↦ rw e (omega arith) ]
+count_at_most (suc n) p = grind (arith, count_at_most n p)
 
 pub count_none : (n : ℕ) (p : ℕ → Bool) → ((k : ℕ) → k < n → p k ≡ false) → count_below n p ≡ 0
 count_none zero p no_one = refl
@@ -38,14 +41,7 @@ count_none (suc n) p no_one = rw (no_one n (omega arith), count_none n p (λ k h
 
 pub count_some : (n : ℕ) (p : ℕ → Bool) (k : ℕ) → k < n → p k ≡ true → 0 < count_below n p
 count_some zero p k h e = omega arith
-count_some (suc n) p k h e = elim (cases_eq k n) [
-  | inl here ↦ rw (ap p (sym here) ∙ e) (omega arith)
-  | inr there ↦ let l = count_some n p k (omega arith) e in omega arith
-]
-
--- a test that cannot be true is false
-pub false_unless : (b : Bool) → (b ≡ true → ⊥) → b ≡ false
-false_unless b never = elim (cases_Bool b) [ inl e ↦ absurd (never e) | inr e ↦ e ]
+count_some (suc n) p k h e = grind (arith, nat_tests, count_some n p k)
 
 -- one passes, if a does and no other
 pub count_only : (n : ℕ) (p : ℕ → Bool) (a : ℕ)
@@ -54,10 +50,10 @@ count_only zero p a h e only = omega arith
 count_only (suc n) p a h e only = elim (cases_eq n a) [
   | inl here ↦ rw (
     ap p here ∙ e,
-    count_none n p (λ k l. false_unless (p k) (λ t. let s = only k (omega arith) t in omega arith)),
+    count_none n p (λ k l. false_from_ne_true (p k) (λ t. let s = only k (omega arith) t in omega arith)),
   )
   | inr there ↦ rw (
-    false_unless (p n) (λ t. there (only n (omega arith) t)),
+    false_from_ne_true (p n) (λ t. there (only n (omega arith) t)),
     count_only n p a (omega arith) e (λ k l t. only k (omega arith) t),
   )
 ]
@@ -92,12 +88,17 @@ count_counted (suc n) p P each = elim (cases_Bool (p n)) [
   | inr e ↦ rw (e, zero-add) (passed (not_from_Decides (p n) (each n) e) (count_counted n p P each))
 ]
 
--- one number more, that passes or that does not
-module _ (n : ℕ) (p : ℕ → Bool) (k : ℕ) (so_far : k ≡ count_below n p) where
-  pub count_more_yes : p n ≡ true → k + 1 ≡ count_below (n + 1) p
-  count_more_yes passes =
-      omega (arith, ap (λ (b : Bool). cond b 1 0 + count_below n p) (sym passes) ∙ ap (λ (i : ℕ). count_below i p) (sym (add-one n)))
+-- the numbers below n that pass the test, counted along the list of the numbers
+pub count_range : (n : ℕ) (p : ℕ → Bool) → count_by p (range_with_len 0 n) ≡ count_below n p
+count_range n p = ap (count_by p) (sym (map-id (range_with_len 0 n))) ∙ along n
+  where
+    test : ℕ → ℕ
+    test k = cond (p k) 1 0
 
-  pub count_more_no : p n ≡ false → k ≡ count_below (n + 1) p
-  count_more_no fails =
-      omega (arith, ap (λ (b : Bool). cond b 1 0 + count_below n p) (sym fails) ∙ ap (λ (i : ℕ). count_below i p) (sym (add-one n)))
+    along : (k : ℕ) → sum_by test (map (λ (j : ℕ). j) (range_with_len 0 k)) ≡ count_below k p
+    along zero = refl
+    along (suc k) =
+        ap (λ (j : ℕ). sum_by test (map (λ (i : ℕ). i) (range_with_len 0 j))) (sym (add-one k))
+        ∙ sum_by-map-range_with_len_more test (λ (j : ℕ). j) 0 k k (zero-add k)
+        ∙ ap (λ (j : ℕ). j + test k) (along k)
+        ∙ add_comm (count_below k p) (test k)

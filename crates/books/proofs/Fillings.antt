@@ -1,13 +1,14 @@
 -- The working space of a plain book fills with W(k,c,b), row after row, and the column of a block then adds up to its total.
-use Rattle.std.proofs.Common.{◌≡◌, ℕ, suc, ◌+◌, ◌-◌, ◌*◌, ◌<◌, ◌≤◌, cond, eqb, List, length, get_or, set, None, sym, refl, ap, ◌∙◌, subst, ap₂, ⊎_elim, suc-mul, add-one, arith}
+use Rattle.std.proofs.Common.{◌≡◌, ℕ, suc, ◌+◌, ◌-◌, ◌*◌, ◌<◌, ◌≤◌, cond, eqb, List, length, get_or, set, None, sym, ap, ◌∙◌, subst, ap₂, ⊎_elim, suc-mul, add-one, arith}
 use Rattle.std.proofs.lemmas.List.{map-set, set-get_or, get_or-set_same, get_or-set_other, get_or-map, length-map, drop-set-lt}
 use Rattle.std.proofs.lemmas.Bool.{cases_eq}
+use Rattle.std.proofs.lemmas.Nat.{same_from_place}
 use Rattle.factors.specs.Ring.{Operations, Ring}
 use Rattle.books.specs.Graph.{Meaning, Circleless, sum_below, along, walks, total}
 use Rattle.books.specs.Cells.{PlainSound, Scratched, blank_cell, cell_line, lines, factors, totals, cells_meaning, with_total}
 use Rattle.books.specs.Walks.{Filled, row_sum, noted_total}
 use Rattle.books.specs.declared.cell.Cell.{Cell}
-use Rattle.books.proofs.Squares.{place_below, place_apart, same_meaning}
+use Rattle.books.proofs.Squares.{place_below, same_meaning}
 use Rattle.books.proofs.Sums.{sum_same}
 
 module _ {F : Type 0} (r : Operations F) where
@@ -17,10 +18,6 @@ module _ {F : Type 0} (r : Operations F) where
   pub walks_none : (m : Meaning F) (k a b : ℕ) → k ≤ 0 → cond (eqb a b) r.one r.zero ≡ walks r m k a b
   unfolding walks
   walks_none m k a b none = let zeroth : 0 ≡ k = omega arith in ap (λ (j : ℕ). walks r m j a b) zeroth
-
--- nothing has changed, and only working space has changed, one step after another
-pub scratched_none : {F : Type 0} {n : ℕ} {cells : List (Cell F)} → Scratched n cells cells
-scratched_none = record { same_lines = refl; same_factors = refl; beyond = refl }
 
 pub scratched_more : {F : Type 0} {n : ℕ} {before between after : List (Cell F)} → Scratched n before between → Scratched n between after → Scratched n before after
 scratched_more p q = record {
@@ -55,21 +52,6 @@ module _ {F : Type 0} (n : ℕ) (cells : List (Cell F)) (room : n * n ≤ length
   pub with_total_totals : totals (with_total zero cells (a * n + b) x) ≡ set (totals cells) (a * n + b) x
   with_total_totals = map-set (λ (c : Cell F). c.total) cells (a * n + b) _
 
--- what is filled stays filled up to a place before, and for the same lines of other cells
-module _ {F : Type 0} (r : Operations F) (b p : ℕ) (cells : List (Cell F)) where
-  pub filled_none : (m : Meaning F) → p ≤ 0 → Filled r m b p cells
-  filled_none m none k c below reached = let never : ⊥ = omega arith in elim never [ ]
-
-  pub filled_fewer : (m : Meaning F) (q : ℕ) → p ≤ q → Filled r m b q cells → Filled r m b p cells
-  filled_fewer m q fewer filled k c below reached = filled k c below (omega arith)
-
-  module _ (n : ℕ) (start between : List (Cell F)) (scratched : Scratched n start between) where
-    pub filled_after : Filled r (cells_meaning n start) b p cells → Filled r (cells_meaning n between) b p cells
-    filled_after = subst (λ (m : Meaning F). Filled r m b p cells) (sym (same_meaning n start between scratched.same_lines))
-
-    pub filled_before : Filled r (cells_meaning n between) b p cells → Filled r (cells_meaning n start) b p cells
-    filled_before = subst (λ (m : Meaning F). Filled r m b p cells) (same_meaning n start between scratched.same_lines)
-
 module _ {F : Type 0} (ring : Ring F) (n : ℕ) (b : ℕ) where
   -- the next row is the sum along lines of the row before
   pub filled_walks : (cells : List (Cell F)) (k a : ℕ) → 0 < k → Filled ring.ops (cells_meaning n cells) b (k * n) cells
@@ -86,25 +68,31 @@ module _ {F : Type 0} (ring : Ring F) (n : ℕ) (b : ℕ) where
       before c below = let row : k * n ≡ (k - 1) * n + n = ap (λ (j : ℕ). j * n) (sym next) ∙ suc-mul (k - 1) n in omega arith
 
   -- one place more is filled
-  pub filled_more : (start cells : List (Cell F)) (k a : ℕ) (x : F) → n * n ≤ length cells → k < n → a < n → Scratched n start cells
-      → Filled ring.ops (cells_meaning n start) b (k * n + a) cells → x ≡ walks ring.ops (cells_meaning n cells) k a b
-      → Filled ring.ops (cells_meaning n start) b (k * n + (a + 1)) (with_total ring.ops.zero cells (k * n + a) x)
-  filled_more start cells k a x room row block scratched filled worth i c below reached =
-      ap (λ (ts : List F). get_or ts (i * n + c) ring.ops.zero) (with_total_totals n cells room k a row block ring.ops.zero x)
-      ∙ ⊎_elim here elsewhere (cases_eq (i * n + c) (k * n + a))
+  pub filled_more : (start cells next : List (Cell F)) (k a : ℕ) (x : F) → n * n ≤ length cells → k < n → a < n
+      → x ≡ walks ring.ops (cells_meaning n cells) k a b → next ≡ with_total ring.ops.zero cells (k * n + a) x
+      → Scratched n start cells × Filled ring.ops (cells_meaning n start) b (k * n + a) cells
+      → Scratched n start next × Filled ring.ops (cells_meaning n start) b (k * n + (a + 1)) next
+  filled_more start cells next k a x room row block worth set_there (scratched, filled) =
+      let Next : List (Cell F) → Type 0 = λ cs. Scratched n start cs × Filled ring.ops (cells_meaning n start) b (k * n + (a + 1)) cs in
+      subst Next (sym set_there) (scratched_more scratched (with_total_scratched n cells room k a row block ring.ops.zero x), at)
     where
-      here : i * n + c ≡ k * n + a → get_or (set (totals cells) (k * n + a) x) (i * n + c) ring.ops.zero ≡ walks ring.ops (cells_meaning n start) i c b
-      here same =
-          let (rows, blocks) = place_apart n i c k a below block same in
-          ap (λ (p : ℕ). get_or (set (totals cells) (k * n + a) x) p ring.ops.zero) same
-          ∙ get_or-set_same (totals cells) (k * n + a) x ring.ops.zero (omega (arith, place_below n k a row block, length-map cells (λ (c : Cell F). c.total)))
-          ∙ worth
-          ∙ ap (λ (m : Meaning F). walks ring.ops m k a b) (same_meaning n start cells scratched.same_lines)
-          ∙ ap₂ (λ (j d : ℕ). walks ring.ops (cells_meaning n start) j d b) (sym rows) (sym blocks)
+      at : Filled ring.ops (cells_meaning n start) b (k * n + (a + 1)) (with_total ring.ops.zero cells (k * n + a) x)
+      at i c below reached =
+          ap (λ (ts : List F). get_or ts (i * n + c) ring.ops.zero) (with_total_totals n cells room k a row block ring.ops.zero x)
+          ∙ ⊎_elim here elsewhere (cases_eq (i * n + c) (k * n + a))
+        where
+          here : i * n + c ≡ k * n + a → get_or (set (totals cells) (k * n + a) x) (i * n + c) ring.ops.zero ≡ walks ring.ops (cells_meaning n start) i c b
+          here same =
+              let (rows, blocks) = same_from_place i c k a n below block same in
+              ap (λ (p : ℕ). get_or (set (totals cells) (k * n + a) x) p ring.ops.zero) same
+              ∙ get_or-set_same (totals cells) (k * n + a) x ring.ops.zero (omega (arith, place_below n k a row block, length-map cells (λ (c : Cell F). c.total)))
+              ∙ worth
+              ∙ ap (λ (m : Meaning F). walks ring.ops m k a b) (same_meaning n start cells scratched.same_lines)
+              ∙ ap₂ (λ (j d : ℕ). walks ring.ops (cells_meaning n start) j d b) (sym rows) (sym blocks)
 
-      elsewhere : (i * n + c ≡ k * n + a → ⊥) → get_or (set (totals cells) (k * n + a) x) (i * n + c) ring.ops.zero ≡ walks ring.ops (cells_meaning n start) i c b
-      elsewhere apart =
-          get_or-set_other (totals cells) (k * n + a) (i * n + c) x ring.ops.zero apart ∙ filled i c below (omega arith)
+          elsewhere : (i * n + c ≡ k * n + a → ⊥) → get_or (set (totals cells) (k * n + a) x) (i * n + c) ring.ops.zero ≡ walks ring.ops (cells_meaning n start) i c b
+          elsewhere apart =
+              get_or-set_other (totals cells) (k * n + a) (i * n + c) x ring.ops.zero apart ∙ filled i c below (omega arith)
 
   -- once every row is filled, what stands in the column of a adds up to the total
   pub filled_total : (start cells : List (Cell F)) (a : ℕ) → a < n → Filled ring.ops (cells_meaning n start) b (n * n) cells

@@ -3,7 +3,7 @@
 --   kept_from   and back
 --   relined_works, worked_kept   the change of one line, before and after it is worked into the rows
 --   kept_reaches, kept_needs   what a support number says
-use Rattle.std.proofs.Common.{◌≡◌, ℕ, ◌+◌, ◌*◌, ◌<◌, ◌≤◌, Bool, true, false, cond, eqb, List, map, length, get_or, drop, set, is_some, Some, None, Option, sym, refl, ap, ◌∙◌, subst, arith}
+use Rattle.std.proofs.Common.{◌≡◌, ℕ, ◌+◌, ◌*◌, ◌<◌, ◌≤◌, Bool, true, false, cond, ◌||◌, eqb, ltb, List, map, length, get_or, drop, set, is_some, Some, None, Option, sym, refl, ap, ◌∙◌, subst, arith}
 use Rattle.std.proofs.lemmas.List.{map-set, set-get_or, get_or-map, length-set, drop-set-lt}
 use Rattle.std.proofs.lemmas.Bool.{cond-true, cond-false}
 use Rattle.factors.specs.Ring.{Operations}
@@ -11,7 +11,7 @@ use Rattle.books.specs.Graph.{Meaning, Circleless, with_line, stands, reaches, s
 use Rattle.books.specs.Cells.{Square, PlainSound, Scratched, blank_cell, cell_line, factor_or, lines, factors, noted_support, cells_meaning, cells_bounded, with_cell_line, relined}
 use Rattle.books.specs.Walks.{noted_total}
 use Rattle.books.specs.Kept.{kept_cell, KeptSound}
-use Rattle.books.specs.Rows.{RowAnswered, Supported, Totalled, HalfWorked, reached}
+use Rattle.books.specs.Rows.{RowAnswered, Supported, Totalled, HalfWorked, support_row, reached}
 use Rattle.books.specs.declared.cell.Cell.{Cell}
 use Rattle.books.proofs.Chains.{relined_again, needed_is_support_one}
 use Rattle.books.proofs.ChangedRows.{this_line}
@@ -142,8 +142,12 @@ module _ {F : Type 0} (r : Operations F) (n : ℕ) (cells : List (Cell F)) (soun
 
 -- what a support number says
 module _ {F : Type 0} (r : Operations F) (n : ℕ) (cells : List (Cell F)) (sound : KeptSound r n cells) (a b : ℕ) (upper : a < n) (lower : b < n) where
-  pub kept_reaches : reached a (support (cells_meaning n cells) a) b ≡ reaches (cells_meaning n cells) a b
-  kept_reaches = support_reached (cells_meaning n cells) (cells_bounded n cells) sound.circleless a upper b
+  pub kept_reaches : reached a (support_row n cells a) b ≡ reaches (cells_meaning n cells) a b
+  kept_reaches =
+      ap (λ (s : ℕ). eqb a b || ltb 0 s) (kept_supported r n cells sound a b upper lower)
+      ∙ support_reached (cells_meaning n cells) (cells_bounded n cells) sound.circleless a upper b
 
-  pub kept_needs : stands (cells_meaning n cells) a b ≡ true → needed (cells_meaning n cells) a b ≡ eqb (support (cells_meaning n cells) a b) 1
-  kept_needs = needed_is_support_one (cells_meaning n cells) (cells_bounded n cells) sound.circleless a b upper
+  pub kept_needs : stands (cells_meaning n cells) a b ≡ true → needed (cells_meaning n cells) a b ≡ eqb (noted_support n cells a b) 1
+  kept_needs line =
+      needed_is_support_one (cells_meaning n cells) (cells_bounded n cells) sound.circleless a b upper line
+      ∙ ap (λ (s : ℕ). eqb s 1) (sym (kept_supported r n cells sound a b upper lower))

@@ -1,12 +1,12 @@
 -- A new kept book: blank cells with ones from each block to itself hold what the definitions give without lines.
 --   ones_more   the loop that sets the ones
---   opened_kept_meaning, opened_kept_beyond, opened_kept   the lines, the cells past the square, and the condition of a new kept book
-use Rattle.std.proofs.Common.{◌≡◌, ℕ, ◌+◌, ◌*◌, ◌<◌, ◌≤◌, Bool, true, false, cond, ◌&&◌, eqb, ltb, List, length, get_or, drop, sym, refl, ap, ◌∙◌, subst, ap₂, arith}
-use Rattle.std.proofs.lemmas.Bool.{false≢true, cond-true, cond-false, lt-ltb}
+--   opened_kept_meaning, opened_kept   the lines and the condition of a new kept book
+use Rattle.std.proofs.Common.{◌≡◌, ℕ, ◌+◌, ◌*◌, ◌<◌, ◌≤◌, Bool, true, false, cond, ◌&&◌, eqb, ltb, List, length, get_or, sym, refl, ap, ◌∙◌, subst, ap₂, arith}
+use Rattle.std.proofs.lemmas.Bool.{false≢true, lt-ltb}
 use Rattle.std.proofs.lemmas.Bool.Decides.{nat_tests}
 use Rattle.factors.specs.Ring.{Operations, Ring}
 use Rattle.books.specs.Graph.{Meaning, no_lines, support, total}
-use Rattle.books.specs.Cells.{Square, PlainSound, Scratched, blank_cell, supports, noted_support, cells_meaning, with_total, opened_cells}
+use Rattle.books.specs.Cells.{Square, Scratched, supports, noted_support, cells_meaning, with_total, opened_cells}
 use Rattle.books.specs.Walks.{noted_total}
 use Rattle.books.specs.Kept.{OnesUpto, KeptSound}
 use Rattle.books.specs.declared.cell.Cell.{Cell}
@@ -15,7 +15,7 @@ use Rattle.books.proofs.Chains.{no_lines_circleless}
 use Rattle.books.proofs.Counts.{count_none}
 use Rattle.books.proofs.Fillings.{scratched_more, scratched_sound}
 use Rattle.books.proofs.KeptCells.{kept_from}
-use Rattle.books.proofs.Openings.{opened_at, opened_meaning, opened_sound, drop_front}
+use Rattle.books.proofs.Openings.{opened_at, blank_meaning, blank_sound}
 use Rattle.books.proofs.Squares.{place_below, same_meaning}
 use Rattle.books.proofs.Sums.{add_none, sum_zeros}
 use Rattle.books.proofs.Totals.{total_from_lines}
@@ -33,16 +33,10 @@ module _ {F : Type 0} (r : Operations F) (n : ℕ) where
       at a b upper lower =
           with_total_at r n cells room i i block block x a b lower
           ∙ ap₂ (λ (y z : F). cond (eqb a i && eqb b i) y z) worth (ones a b upper lower)
-          ∙ by_test (eqb a i && eqb b i) refl
+          ∙ by_test
         where
-          by_test : (t : Bool) → (eqb a i && eqb b i) ≡ t
-              → cond (eqb a i && eqb b i) r.one (cond (eqb a b && ltb a i) r.one (noted_total r n start a b)) ≡ cond (eqb a b && ltb a (i + 1)) r.one (noted_total r n start a b)
-          by_test true e =
-              let here : (eqb a b && ltb a (i + 1)) ≡ true = grind (arith, nat_tests) in
-              cond-true _ _ _ e ∙ sym (cond-true _ _ _ here)
-          by_test false e =
-              let same : (eqb a b && ltb a i) ≡ (eqb a b && ltb a (i + 1)) = grind (arith, nat_tests) in
-              cond-false _ _ _ e ∙ ap (λ (u : Bool). cond u r.one (noted_total r n start a b)) same
+          by_test : cond (eqb a i && eqb b i) r.one (cond (eqb a b && ltb a i) r.one (noted_total r n start a b)) ≡ cond (eqb a b && ltb a (i + 1)) r.one (noted_total r n start a b)
+          by_test = grind (arith, nat_tests)
 
 -- without lines nothing is counted, and only the empty chain adds to a total
 blank_support : (F : Type 0) (n a b : ℕ) → support (no_lines {F = F} n) a b ≡ 0
@@ -54,17 +48,13 @@ blank_total {F} r n a b block =
     total_from_lines r (no_lines n) (λ c d never. absurd (false≢true never)) (no_lines_circleless F n) a b block ∙ add_none r _ _ (sum_zeros r n _ (λ c below. refl))
 
 -- blank cells with ones from each block to itself
-module _ {F : Type 0} (r : Ring F) (n : ℕ) (cells : List (Cell F)) (square : Square n cells) (blanked after : List (Cell F)) (blank : blanked ≡ opened_cells r.ops.zero n cells) (ones : OnesUpto r.ops n n blanked after) (scratched : Scratched n blanked after) (same : supports after ≡ supports blanked) (room : n * n ≤ length after) where
+module _ {F : Type 0} (r : Ring F) (n : ℕ) (cells : List (Cell F)) (square : Square n cells) (after : List (Cell F)) (blank : cells ≡ opened_cells r.ops.zero n cells) (ones : OnesUpto r.ops n n cells after) (scratched : Scratched n cells after) (same : supports after ≡ supports cells) (room : n * n ≤ length after) where
   pub opened_kept_meaning : cells_meaning n after ≡ no_lines n
-  opened_kept_meaning = same_meaning n blanked after scratched.same_lines ∙ ap (cells_meaning n) blank ∙ opened_meaning r.ops.zero n cells square
-
-  pub opened_kept_beyond : drop (n * n) after ≡ drop (n * n) cells
-  opened_kept_beyond = scratched.beyond ∙ ap (drop (n * n)) blank ∙ drop_front (n * n) cells (blank_cell r.ops.zero)
+  opened_kept_meaning = same_meaning n cells after scratched.same_lines ∙ blank_meaning r.ops.zero n cells square blank
 
   pub opened_kept : KeptSound r.ops n after
   opened_kept =
-      let Plain : List (Cell F) → Type 0 = PlainSound r.ops.zero n in
-      kept_from r.ops n after (scratched_sound r.ops.zero n blanked after room scratched (subst Plain (sym blank) (opened_sound r.ops.zero n cells square)))
+      kept_from r.ops n after (scratched_sound r.ops.zero n cells after room scratched (blank_sound r.ops.zero n cells square blank))
       (λ a b upper lower all.
       ap (λ (ss : List ℕ). get_or ss (a * n + b) 0) same
       ∙ ap (λ (cs : List (Cell F)). noted_support n cs a b) blank

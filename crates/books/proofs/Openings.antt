@@ -1,43 +1,14 @@
 -- A new book: its cells are blank, so that it has no lines.
-use Rattle.std.proofs.Common.{◌≡◌, ℕ, ◌+◌, ◌*◌, ◌<◌, ◌≤◌, Bool, true, false, cond, ◌&&◌, eqb, ltb, List, [], ◌∷◌, ◌++◌, map, length, get_or, drop, set, replicate, None, sym, refl, ap, ◌∙◌, subst, arith}
+use Rattle.std.proofs.Common.{◌≡◌, ℕ, ◌+◌, ◌*◌, ◌<◌, ◌≤◌, Bool, true, false, cond, ◌&&◌, ltb, List, [], ◌∷◌, map, length, get_or, drop, replicate, None, sym, refl, ap, ◌∙◌, subst, arith}
 use mathlib.Core.Path.{fun_ext}
-use lib.Seq.{drop-append_seam}
-use Rattle.std.proofs.lemmas.List.{append_assoc, drop_more, set_at, replicate_more, length-replicate, length-append, length-drop, get_or_append_left, get_or-map, get_or-replicate}
-use Rattle.std.proofs.lemmas.Bool.{and_parts, ltb-true, ltb-false}
+use Rattle.std.proofs.lemmas.List.{length-replicate, length-append, length-drop, get_or_append_left, get_or-map, get_or-replicate}
+use Rattle.std.proofs.lemmas.Bool.{and_parts, ltb-true}
+use Rattle.std.specs.List.{FoldsTo}
 use Rattle.books.specs.Graph.{Meaning, Circleless, no_lines}
-use Rattle.books.specs.Calls.{opened_size}
 use Rattle.books.specs.Cells.{Square, PlainSound, blank_cell, cell_line, lines, cells_meaning, opened_cells}
 use Rattle.books.specs.declared.cell.Cell.{Cell}
 use Rattle.books.proofs.Chains.{no_lines_circleless}
 use Rattle.books.proofs.Squares.{place_below}
-
--- one more element at the front is replaced
-pub front_more : {X : Type 0} (xs : List X) (x : X) (k : ℕ) → k < length xs
-    → set (replicate k x ++ drop k xs) k x ≡ replicate (k + 1) x ++ drop (k + 1) xs
-front_more xs x k within =
-    ap (λ ys. set (replicate k x ++ ys) k x) (drop_more xs k x within)
-    ∙ set_at (replicate k x) (get_or xs k x) (drop (k + 1) xs) x k (length-replicate k x)
-    ∙ sym (append_assoc (replicate k x) (x ∷ []) (drop (k + 1) xs))
-    ∙ ap (λ ys. ys ++ drop (k + 1) xs) (replicate_more k x)
-
--- the elements behind are left
-pub drop_front : {X : Type 0} (n : ℕ) (xs : List X) (x : X) → drop n (replicate n x ++ drop n xs) ≡ drop n xs
-drop_front n xs x =
-    ap (λ (k : ℕ). drop k (replicate n x ++ drop n xs)) (sym (length-replicate n x)) ∙ drop-append_seam (replicate n x) (drop n xs)
-
--- the size of an opened book is one that its cells suffice for
-pub opened_square : {F : Type 0} (n : ℕ) (cells : List (Cell F)) → Square (opened_size n (length cells)) cells
-opened_square n cells = by_tests (eqb n 0) refl (ltb 64 n) refl (ltb (length cells) (n * n)) refl
-  where
-    by_tests : (none : Bool) → eqb n 0 ≡ none → (large : Bool) → ltb 64 n ≡ large → (few : Bool) → ltb (length cells) (n * n) ≡ few
-        → Square (opened_size n (length cells)) cells
-    by_tests true p large q few r = rw p (record { small = omega arith; room = omega arith })
-    by_tests false p true q few r = rw (p, q) (record { small = omega arith; room = omega arith })
-    by_tests false p false q true r = rw (p, q, r) (record { small = omega arith; room = omega arith })
-    by_tests false p false q false r = rw (p, q, r) (record { small = omega (arith, ltb-false 64 n q); room = omega (arith, ltb-false (length cells) (n * n) r) })
-
-pub sized_square : {F : Type 0} (n size : ℕ) (cells : List (Cell F)) → size ≡ opened_size n (length cells) → Square size cells
-sized_square n size cells sized = subst (λ (k : ℕ). Square k cells) (sym sized) (opened_square n cells)
 
 module _ {F : Type 0} (zero : F) (n : ℕ) (cells : List (Cell F)) (square : Square n cells) where
   -- a cell of the square is blank
@@ -66,3 +37,17 @@ module _ {F : Type 0} (zero : F) (n : ℕ) (cells : List (Cell F)) (square : Squ
     vacant = λ k below none. opened_at (λ c. c.factor) k zero below;
     circleless = subst (λ (m : Meaning F). Circleless m) (sym opened_meaning) (no_lines_circleless F n);
   }
+
+  -- blank cells have no lines, and are the cells of a plain book
+  pub blank_meaning : cells ≡ opened_cells zero n cells → cells_meaning n cells ≡ no_lines n
+  blank_meaning blank = ap (cells_meaning n) blank ∙ opened_meaning
+
+  pub blank_sound : cells ≡ opened_cells zero n cells → PlainSound zero n cells
+  blank_sound blank = let Plain : List (Cell F) → Type 0 = PlainSound zero n in subst Plain (sym blank) opened_sound
+
+-- a list of what is made alike as long as nothing else changes
+pub made_alike : {P X : Type 0} (R : P → X → P → Type 0) (b : X) (first : P) → ((x : X) (q : P) → R first x q → (x ≡ b) × (q ≡ first))
+    → (xs : List X) (p q : P) → p ≡ first → FoldsTo R p xs q → xs ≡ replicate (length xs) b
+made_alike R b first each [] p q same made = refl
+made_alike {P = P} R b first each (x ∷ xs) p q same (j, one, made) =
+    let (here, stays) = each x j (subst (λ (s : P). R s x j) same one) in λ i. here i ∷ made_alike R b first each xs j q stays made i

@@ -1,12 +1,14 @@
 -- The work set of a row, said of the cells: what its loop keeps, how it starts, turns and ends.
 --   RowLosing, row_loses_..    blocks that a row loses
 --   RowGaining, row_gains_..   blocks that a row gains
+--   RowTurning, unturned, first_steppable, turning_..   either
 use Rattle.std.proofs.Common.{◌≡◌, ℕ, ◌+◌, ◌<◌, ◌≤◌, Bool, true, false, not, ◌&&◌, ◌||◌, eqb, List, length, get_or, set, replicate, sym, refl, ap, ◌∙◌, subst, arith}
 use Rattle.std.proofs.lemmas.List.{length-set, get_or-replicate}
 use Rattle.std.proofs.lemmas.Bool.{eq-eqb}
 use Rattle.books.specs.Graph.{Meaning, Bounded, Circleless, stands, count_below, reaches}
 use Rattle.books.specs.Cells.{cells_meaning, cells_bounded, noted_support}
-use Rattle.books.specs.Rows.{one, counted, support_row, reached, Settled, Stepped, Resupported}
+use Rattle.books.specs.Rows.{Direction, Steppable, one, counted, support_row, reached, Settled, Stepped, SteppedBy, Turnable, Resupported}
+use Rattle.books.specs.Rows.Direction.{down, up}
 use Rattle.books.specs.Graph.Chain.{empty}
 use Rattle.books.specs.declared.cell.Cell.{Cell}
 use Rattle.books.proofs.Chains.{reaches_chain, chain_reaches, chain_onward}
@@ -138,3 +140,53 @@ module _ {F : Type 0} (b : ℕ) (m : Meaning F) (small : m.size ≤ 64) (p : ℕ
 
   pub entered_few : counted m p b ≡ s + one (eqb b b) → s ≤ 64
   entered_few balance = omega (arith, count_at_most m.size (λ l. stands m l b && p l))
+
+-- the same in either direction
+abbrev pub RowTurning : {F : Type 0} → Direction → ℕ → ℕ → ℕ → List (Cell F) → List (Cell F) → List Bool → Type 0
+RowTurning down n i b start cells marks = RowLosing n i start cells marks
+RowTurning up n i b start cells marks = RowGaining n i b start cells marks
+
+-- the blocks that a loop has still to turn, or that the row keeps
+abbrev pub unturned : {F : Type 0} → Direction → ℕ → ℕ → List (Cell F) → List Bool → ℕ → Bool
+unturned down n i cells marks x = reached i (support_row n cells i) x || get_or marks x false
+unturned up n i cells marks x = not (reached i (support_row n cells i) x && not (get_or marks x false))
+
+module _ {F : Type 0} (n i b : ℕ) (start cells : List (Cell F)) (marks : List Bool) where
+  pub turning_places : (d : Direction) → RowTurning d n i b start cells marks → length marks ≡ 64
+  turning_places down inv = inv.places
+  turning_places up inv = inv.places
+
+  pub turning_rest : (d : Direction) → RowTurning d n i b start cells marks → Resupported n i start cells
+  turning_rest down inv = inv.rest
+  turning_rest up inv = inv.rest
+
+  pub turning_steppable : (d : Direction) → n ≤ 64 → RowTurning d n i b start cells marks → (l : ℕ) → l < n → get_or marks l false ≡ true
+      → (j : ℕ) → j < n → stands (cells_meaning n cells) l j ≡ true → Steppable d (noted_support n cells i j)
+  turning_steppable down small inv l block at j below line = row_loses_some n i start cells marks inv l block at j below line
+  turning_steppable up small inv l block at j below line = omega (arith, row_gains_few n i start cells marks b inv j below, small)
+
+module _ {F : Type 0} (n i b : ℕ) (cells : List (Cell F)) where
+  -- the number that the changed line steps can step
+  pub first_steppable : (d : Direction) → n ≤ 64 → b < n → Turnable d n i b cells → Steppable d (noted_support n cells i b)
+  first_steppable down small lower starts = struck_some b (cells_meaning n cells) small (reached i (support_row n cells i)) _ (starts.balance b lower)
+  first_steppable up small lower starts = entered_few b (cells_meaning n cells) small (reached i (support_row n cells i)) _ (starts.balance b lower)
+
+  pub turning_starts : (d : Direction) (small : n ≤ 64) (row : i < n) (start : List (Cell F)) (marks after : List Bool) → marks ≡ replicate 64 false → length after ≡ length marks → Resupported n i cells start
+      → Turnable d n i b cells → SteppedBy d n i (λ j. eqb j b) cells start marks after → RowTurning d n i b start start after
+  turning_starts down small row start marks after none kept rest starts step = row_loses_starts n i b small row cells start marks after none kept rest step starts.own starts.balance
+  turning_starts up small row start marks after none kept rest starts step = row_gains_starts n i b small row cells start marks after none kept rest step starts.circleless starts.apart starts.balance
+
+module _ {F : Type 0} (n i : ℕ) (small : n ≤ 64) (row : i < n) (start cells next : List (Cell F)) (marks after : List Bool) (l : ℕ) (block : l < n) (at : get_or marks l false ≡ true) (kept : length after ≡ length (set marks l false)) (more : Resupported n i cells next) (b : ℕ) where
+  pub turning_turns : (d : Direction) → RowTurning d n i b start cells marks → SteppedBy d n i (stands (cells_meaning n cells) l) cells next (set marks l false) after → RowTurning d n i b start next after
+  turning_turns down inv step = row_loses_turns n i small row start cells next marks after l block at kept more inv step
+  turning_turns up inv step = row_gains_turns n i small row start cells next marks after l block at kept more b inv step
+
+  pub turning_falls : (d : Direction) → RowTurning d n i b start cells marks → SteppedBy d n i (stands (cells_meaning n cells) l) cells next (set marks l false) after
+      → count_below n (unturned d n i next after) < count_below n (unturned d n i cells marks)
+  turning_falls down inv step = row_loses_falls n i small row start cells next marks after l block at kept more inv step
+  turning_falls up inv step = row_gains_falls n i small row start cells next marks after l block at kept more b inv step
+
+module _ {F : Type 0} (n i : ℕ) (first start cells : List (Cell F)) (marks : List Bool) (rest : Resupported n i first start) (over : (x : ℕ) → x < n → get_or marks x false ≡ false) (b : ℕ) where
+  pub turning_ends : (d : Direction) → RowTurning d n i b start cells marks → Settled (cells_meaning n first) i (support_row n cells i)
+  turning_ends down inv = row_loses_ends n i first start cells marks rest over inv
+  turning_ends up inv = row_gains_ends n i first start cells marks rest over b inv

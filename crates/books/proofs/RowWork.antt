@@ -3,6 +3,7 @@
 --   struck_work, entered_work   the change
 --   work_apart, work_own, work_circleless, struck_work_balance, entered_work_balance, entered_work_apart   what the row starts from
 --   work_mends, work_passes   the row reaches the line, or not
+--   work_changed, work_turnable   the change, and what the row starts from, in either direction
 use Rattle.std.proofs.Common.{◌≡◌, ℕ, ◌+◌, ◌*◌, ◌<◌, ◌≤◌, true, false, eqb, List, length, get_or, is_some, Some, None, Option, sym, refl, ap, ◌∙◌, subst, subst₂, inl, inr, arith}
 use Rattle.std.proofs.lemmas.Bool.{cases_lt}
 use Rattle.std.proofs.lemmas.Bool.Decides.{not_from_Decides}
@@ -10,7 +11,8 @@ use Rattle.factors.specs.Ring.{Operations, Ring}
 use Rattle.books.specs.Graph.{Meaning, with_line, stands, Circleless, reaches}
 use Rattle.books.specs.Cells.{noted_support, cells_meaning, cells_bounded}
 use Rattle.books.specs.Walks.{noted_total}
-use Rattle.books.specs.Rows.{one, counted, support_row, reached, Settled, Added, Resupported, Retotalled, RowAnswered, Supported, Totalled, HalfWorked}
+use Rattle.books.specs.Rows.{one, counted, support_row, reached, Settled, Added, Resupported, Retotalled, Direction, line_before, line_after, line_added, Turnable, RowAnswered, Supported, Totalled, HalfWorked}
+use Rattle.books.specs.Rows.Direction.{down, up}
 use Rattle.books.specs.declared.cell.Cell.{Cell}
 use Rattle.books.proofs.ChangedRows.{Changed, struck_changed, entered_changed, row_passes, row_passed, row_reaches, row_own, row_apart, struck_balance, entered_balance, entered_apart, row_mends, working_more}
 use Rattle.books.proofs.Fillings.{scratched_more}
@@ -91,3 +93,22 @@ module _ {F : Type 0} (r : Ring F) (n : ℕ) (cells : List (Cell F)) (a b : ℕ)
           (row_mends r n cells a b was x changed i row own_row work.lower lower_row mid after work.upper added rest.scratched settles.same_totals settled)
           (λ k j upper lower other. settles.same_rows k j upper lower other ∙ ap (λ (ss : List ℕ). get_or ss (k * n + j) 0) rest.same_supports)
           (λ k j upper lower other. ap (λ (ts : List F). get_or ts (k * n + j) r.ops.zero) settles.same_totals ∙ rest.same_rows k j upper lower other)
+
+-- the same in either direction
+module _ {F : Type 0} (r : Ring F) (n : ℕ) (cells : List (Cell F)) (a b : ℕ) (f : F) where
+  pub work_changed : (d : Direction) (p : ℕ) → HalfWorked r.ops n a b (line_before d f) (line_after d f) p cells
+      → Changed r (cells_meaning n cells) a b (line_before d f) (line_added r d f)
+  work_changed down p work = struck_work r n cells a b f p work
+  work_changed up p work = entered_work r n cells a b f p work
+
+  pub work_turnable : (d : Direction) (i : ℕ) (row : i < n) (work : HalfWorked r.ops n a b (line_before d f) (line_after d f) i cells)
+      → reached i (support_row n cells i) a ≡ true → (mid : List (Cell F)) → Retotalled r.ops n i cells mid → Turnable d n i b mid
+  work_turnable down i row work at mid rest = record {
+    own = work_own r n cells a b (Some f) None (r.opposite f) (work_changed down i work) i row work at mid rest;
+    balance = struck_work_balance r n cells a b (Some f) None (r.opposite f) (work_changed down i work) i row work at mid rest refl refl;
+  }
+  work_turnable up i row work at mid rest = record {
+    circleless = work_circleless r n cells a b None (Some f) f (work_changed up i work) i row work at mid rest;
+    apart = entered_work_apart r n cells a b None (Some f) f (work_changed up i work) i row work at mid rest refl refl;
+    balance = entered_work_balance r n cells a b None (Some f) f (work_changed up i work) i row work at mid rest refl refl;
+  }

@@ -1,8 +1,8 @@
 -- A search: what its loop keeps, a visit keeps it, and once every block seen is visited the seen ones are the reached ones.
-use Rattle.std.proofs.Common.{◌≡◌, ℕ, zero, suc, ◌+◌, ◌<◌, ◌≤◌, Bool, true, false, cond, not, ◌||◌, ◌⊎◌, List, length, get_or, set, replicate, count_by, sym, refl, ap, ◌∙◌, inl, inr, ⊎_elim, arith}
-use Rattle.std.proofs.lemmas.List.{get_or-set_same, get_or-set_other, length-set}
-use Rattle.std.proofs.lemmas.List.Sums.{sum_by-set}
-use Rattle.std.proofs.lemmas.Bool.{cases_eq, or_cases, or_left, or_right, false≢true}
+use Rattle.std.proofs.Common.{◌≡◌, ℕ, suc, ◌<◌, ◌≤◌, Bool, true, false, ◌||◌, ◌⊎◌, List, length, get_or, set, replicate, sym, refl, ap, ◌∙◌, ⊎_elim, arith}
+use Rattle.std.proofs.lemmas.List.{get_or-set_same, length-set}
+use Rattle.std.proofs.lemmas.Grind.{common_steps}
+use Rattle.std.proofs.lemmas.Bool.{or_cases, or_left, or_right}
 use Rattle.books.specs.Graph.{Meaning, Bounded, Circleless, Reaches, stands, reaches}
 use Rattle.books.proofs.Chains.{reaches_same, chain_onward, search_decides}
 
@@ -16,16 +16,11 @@ pub record Searched {F : Type 0} (m : Meaning F) (a : ℕ) (seen visited : List 
 
 -- no place of a list of unmarked places is marked
 unmarked : (n k : ℕ) → get_or (replicate n false) k false ≡ true → ⊥
-unmarked n k marked = false≢true (sym (none n k) ∙ marked)
-  where
-    none : (n k : ℕ) → get_or (replicate n false) k false ≡ false
-    none zero k = refl
-    none (suc n) zero = refl
-    none (suc n) (suc k) = none n k
+unmarked n k marked = grind (arith, common_steps)
 
 -- a place that is marked after one was is that one or was marked before
 newly : (marks : List Bool) (i k : ℕ) → get_or (set marks i true) k false ≡ true → (k ≡ i) ⊎ (get_or marks k false ≡ true)
-newly marks i k marked = ⊎_elim inl (λ ne. inr (sym (get_or-set_other marks i k true false ne) ∙ marked)) (cases_eq k i)
+newly marks i k marked = grind (arith, common_steps)
 
 module _ {F : Type 0} (m : Meaning F) (a : ℕ) where
   pub search_starts : m.size ≤ 64 → a < m.size → Searched m a (set (replicate 64 false) a true) (replicate 64 false)
@@ -54,15 +49,6 @@ module _ {F : Type 0} (m : Meaning F) (a : ℕ) where
           (newly visited l i now);
     }
 
-    -- one place fewer is unmarked
-    pub search_falls : get_or visited l false ≡ false → m.size ≤ 64 → count_by not (set visited l true) < count_by not visited
-    search_falls unvisited small =
-        let room = searched.visited_room in
-        let open_place : Bool → ℕ = λ b. cond (not b) 1 0 in
-        let one : open_place (get_or visited l false) ≡ 1 = ap open_place unvisited in
-        let within : l < length visited = omega arith in
-        omega (arith, sum_by-set open_place visited l true false within)
-
   pub search_ends : Bounded m → Circleless m → (seen visited : List Bool) → Searched m a seen visited
       → ((l : ℕ) → l < m.size → get_or seen l false ≡ true → get_or visited l false ≡ true)
       → (j : ℕ) → j < m.size → get_or seen j false ≡ reaches m a j
@@ -70,35 +56,3 @@ module _ {F : Type 0} (m : Meaning F) (a : ℕ) where
       search_decides m bounded circleless a (λ j. get_or seen j false) searched.start
       (λ i j upper lower at line. searched.followed i j upper lower (over i upper at) line)
       searched.reached
-
--- the places below i of `now` are those of `before` or pass the test p, the others are as they were
-abbrev pub Marked : List Bool → (ℕ → Bool) → ℕ → List Bool → Type 0
-Marked before p i now =
-    ((k : ℕ) → k < i → get_or now k false ≡ (get_or before k false || p k))
-    × ((k : ℕ) → i ≤ k → get_or now k false ≡ get_or before k false)
-
-or_true : (x y : Bool) → y ≡ true → true ≡ (x || y)
-or_true x y e = sym (or_right x y e)
-
-or_false : (x y : Bool) → y ≡ false → x ≡ (x || y)
-or_false true y e = refl
-or_false false y e = sym e
-
-module _ (before : List Bool) (p : ℕ → Bool) (i : ℕ) (now : List Bool) (marked : Marked before p i now) where
-  pub marked_yes : i < length now → p i ≡ true → Marked before p (i + 1) (set now i true)
-  marked_yes within passes = (
-    (λ k below. ⊎_elim (here k) (λ ne. get_or-set_other now i k true false ne ∙ marked.0 k (omega arith)) (cases_eq k i)),
-    (λ k above. get_or-set_other now i k true false (omega arith) ∙ marked.1 k (omega arith)),
-  )
-    where
-      here : (k : ℕ) → k ≡ i → get_or (set now i true) k false ≡ (get_or before k false || p k)
-      here k at =
-          ap (λ (n : ℕ). get_or (set now i true) n false) at
-          ∙ get_or-set_same now i true false within
-          ∙ or_true (get_or before k false) (p k) (ap p at ∙ passes)
-
-  pub marked_no : p i ≡ false → Marked before p (i + 1) now
-  marked_no fails = (
-    (λ k below. ⊎_elim (λ at. marked.1 k (omega arith) ∙ or_false _ (p k) (ap p at ∙ fails)) (λ ne. marked.0 k (omega arith)) (cases_eq k i)),
-    (λ k above. marked.1 k (omega arith)),
-  )

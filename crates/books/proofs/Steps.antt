@@ -2,17 +2,20 @@
 --   pair_set   what stands at a pair after one was set
 --   with_support_.., resupported_..   only support numbers of one row change
 --   lowered_once, raised_once   one support number steps
---   steps_none, steps_left, steps_passed, steps_lower, steps_raise, steps_all   a row steps column by column
+--   steps_left, steps_passed, steps_lower, steps_raise   a row steps column by column
+--   stepped_.., SteppedUpto, step_more   the same in either direction
 --   steps_row, cleared_row   the row on its own
 use Rattle.std.proofs.Common.{◌≡◌, ℕ, ◌+◌, ◌-◌, ◌*◌, ◌<◌, ◌≤◌, Bool, true, false, cond, ◌&&◌, ◌||◌, eqb, ltb, List, length, get_or, set, None, sym, refl, ap, ◌∙◌, subst, inl, inr, ⊎_elim, arith}
 use Rattle.std.proofs.lemmas.List.{map-set, set-get_or, get_or-set_same, get_or-set_other, get_or-map, length-map, drop-set-lt}
+use Rattle.std.proofs.lemmas.Nat.{same_from_place}
 use Rattle.std.proofs.lemmas.Bool.{cases_eq, and_from, and_parts, cond-true, cond-false, eq-eqb, ne_eqb, eqb-true}
 use Rattle.std.proofs.lemmas.Bool.Decides.{nat_tests}
 use Rattle.books.specs.Cells.{blank_cell, cell_line, lines, factors, supports, totals, noted_support, with_support}
-use Rattle.books.specs.Rows.{one, support_row, Stepped, Resupported}
+use Rattle.books.specs.Rows.{Direction, Steppable, stepped, turned, one, support_row, Stepped, SteppedBy, Resupported}
+use Rattle.books.specs.Rows.Direction.{down, up}
 use Rattle.books.specs.declared.cell.Cell.{Cell}
 use Rattle.books.proofs.Fillings.{scratched_more}
-use Rattle.books.proofs.Squares.{place_below, place_apart}
+use Rattle.books.proofs.Squares.{place_below}
 use Rattle.books.proofs.WorkSets.{Lessened, Cleared}
 
 -- what stands at (k,l) after (i,j) was set
@@ -23,7 +26,7 @@ pair_set n xs i j k l x d row column below room =
   where
     here : k * n + l ≡ i * n + j → get_or (set xs (i * n + j) x) (k * n + l) d ≡ cond (eqb k i && eqb l j) x (get_or xs (k * n + l) d)
     here same =
-        let (rows, columns) = place_apart n k l i j below column same in
+        let (rows, columns) = same_from_place k l i j n below column same in
         ap (λ (p : ℕ). get_or (set xs (i * n + j) x) p d) same
         ∙ get_or-set_same xs (i * n + j) x d (omega (arith, place_below n i j row column))
         ∙ sym (cond-true _ _ _ (and_from _ _ (eq-eqb k i rows) (eq-eqb l j columns)))
@@ -113,7 +116,7 @@ module _ {F : Type 0} (n : ℕ) (cells : List (Cell F)) (room : n * n ≤ length
   marked_at t now l below = ap (λ (bs : List Bool). get_or bs l false) now ∙ step_marked n j marks t places l below column
 
   pub lowered_once : 0 < noted_support n cells i j
-      → next ≡ with_support zero cells (i * n + j) (noted_support n cells i j - 1) → after ≡ cond (eqb (noted_support n cells i j - 1) 0) (set marks j true) marks
+      → next ≡ with_support zero cells (i * n + j) (noted_support n cells i j - 1) → after ≡ cond (eqb (noted_support n cells i j) 1) (set marks j true) marks
       → Stepped n i (λ k. eqb k j) next cells marks after
   lowered_once some lowers marking = record {
     differ = λ k l upper lower. let e = set_at _ lowers k l lower in grind (arith, nat_tests);
@@ -138,9 +141,6 @@ abbrev pub upto : (ℕ → Bool) → ℕ → ℕ → Bool
 upto p j k = ltb k j && p k
 
 module _ {F : Type 0} (n i : ℕ) (row : i < n) (p : ℕ → Bool) where
-  pub steps_none : (cells : List (Cell F)) (marks : List Bool) → Stepped n i (upto p 0) cells cells marks marks
-  steps_none cells marks = record { differ = λ k l upper lower. grind (arith, nat_tests); marked = λ l lower. grind (arith, nat_tests) }
-
   module _ (j : ℕ) {low high : List (Cell F)} {before after : List Bool} (steps : Stepped n i (upto p j) low high before after) where
     -- a column that is still to come is as it was
     pub steps_left : j < n → noted_support n high i j ≡ noted_support n low i j
@@ -180,12 +180,6 @@ module _ {F : Type 0} (n i : ℕ) (row : i < n) (p : ℕ → Bool) where
         here : (l : ℕ) → l ≡ j → p l ≡ true
         here l same = ap p same ∙ passes
 
-  pub steps_all : {low high : List (Cell F)} {before after : List Bool} → Stepped n i (upto p n) low high before after → Stepped n i p low high before after
-  steps_all steps = record {
-    differ = λ k l upper lower. let d = steps.differ k l upper lower in grind (arith, nat_tests);
-    marked = λ l lower. let d = steps.marked l lower in grind (arith, nat_tests);
-  }
-
   pub steps_row : {low high : List (Cell F)} {before after : List Bool} → Stepped n i p low high before after
       → Lessened n p (support_row n low i) (support_row n high i) (λ k. get_or before k false) (λ k. get_or after k false)
   steps_row steps = record { differ = λ j below. let d = steps.differ i j row below in grind (arith, nat_tests); marked = steps.marked }
@@ -196,26 +190,39 @@ cleared_row n l marks room block j below = elim (cases_eq j l) [
   | inr there ↦ get_or-set_other marks l j false false there ∙ grind (arith, nat_tests)
 ]
 
--- what a loop over the lines from a block keeps: the columns below j have stepped, down or up, and nothing else has changed
-abbrev pub LoweredUpto : {F : Type 0} → ℕ → ℕ → (ℕ → Bool) → ℕ → List (Cell F) → List Bool → List (Cell F) → List Bool → Type 0
-LoweredUpto n i p j start before cells after = Stepped n i (upto p j) cells start before after × Resupported n i start cells
+-- one support number of row i steps, in either direction
+module _ {F : Type 0} (n : ℕ) (cells : List (Cell F)) (room : n * n ≤ length cells) (i j : ℕ) (row : i < n) (column : j < n) (zero : F) (marks : List Bool) (places : n ≤ length marks) (next : List (Cell F)) (after : List Bool) where
+  pub stepped_once : (d : Direction) → Steppable d (noted_support n cells i j)
+      → next ≡ with_support zero cells (i * n + j) (stepped d (noted_support n cells i j)) → after ≡ cond (turned d (noted_support n cells i j)) (set marks j true) marks
+      → SteppedBy d n i (λ k. eqb k j) cells next marks after
+  stepped_once down some steps turns = lowered_once n cells room i j row column zero marks places next after some steps turns
+  stepped_once up few steps turns = raised_once n cells room i j row column zero marks places next after steps turns
 
-abbrev pub RaisedUpto : {F : Type 0} → ℕ → ℕ → (ℕ → Bool) → ℕ → List (Cell F) → List Bool → List (Cell F) → List Bool → Type 0
-RaisedUpto n i p j start before cells after = Stepped n i (upto p j) start cells before after × Resupported n i start cells
+module _ {F : Type 0} (n i : ℕ) (row : i < n) (p : ℕ → Bool) where
+  module _ (start cells : List (Cell F)) (before after : List Bool) where
+    module _ (j : ℕ) where
+      pub stepped_left : (d : Direction) → SteppedBy d n i (upto p j) start cells before after → j < n → noted_support n cells i j ≡ noted_support n start i j
+      stepped_left down steps column = sym (steps_left n i row p j steps column)
+      stepped_left up steps column = steps_left n i row p j steps column
 
-module _ {F : Type 0} (n i : ℕ) (row : i < n) (p : ℕ → Bool) (j : ℕ) (column : j < n) (zero : F) (start cells next : List (Cell F)) (before marks after : List Bool) (room : n * n ≤ length cells) (places : n ≤ length marks) where
-  pub lower_more : p j ≡ true → 0 < noted_support n start i j → LoweredUpto n i p j start before cells marks
-      → next ≡ with_support zero cells (i * n + j) (noted_support n cells i j - 1) → after ≡ cond (eqb (noted_support n cells i j - 1) 0) (set marks j true) marks
-      → LoweredUpto n i p (j + 1) start before next after
-  lower_more passes some (steps, rest) lowers marking = (
-    steps_lower n i row p j steps passes (lowered_once n cells room i j row column zero marks places next after (let d = steps_left n i row p j steps column in omega arith) lowers marking),
-    resupported_more n rest (set_rest n cells room i j row column zero marks places next after (noted_support n cells i j - 1) lowers),
-  )
+      pub stepped_passed : (d : Direction) → SteppedBy d n i (upto p j) start cells before after → p j ≡ false → SteppedBy d n i (upto p (j + 1)) start cells before after
+      stepped_passed down steps none = steps_passed n i row p j steps none
+      stepped_passed up steps none = steps_passed n i row p j steps none
 
-  pub raise_more : p j ≡ true → RaisedUpto n i p j start before cells marks
-      → next ≡ with_support zero cells (i * n + j) (noted_support n cells i j + 1) → after ≡ cond (eqb (noted_support n cells i j) 0) (set marks j true) marks
-      → RaisedUpto n i p (j + 1) start before next after
-  raise_more passes (steps, rest) raises marking = (
-    steps_raise n i row p j steps passes (raised_once n cells room i j row column zero marks places next after raises marking),
-    resupported_more n rest (set_rest n cells room i j row column zero marks places next after (noted_support n cells i j + 1) raises),
+      pub stepped_further : (d : Direction) (next : List (Cell F)) (marks : List Bool) → SteppedBy d n i (upto p j) start cells before after → p j ≡ true
+          → SteppedBy d n i (λ k. eqb k j) cells next after marks → SteppedBy d n i (upto p (j + 1)) start next before marks
+      stepped_further down next marks steps passes step = steps_lower n i row p j steps passes step
+      stepped_further up next marks steps passes step = steps_raise n i row p j steps passes step
+
+-- what a loop over the lines from a block keeps: the columns below j have stepped, and nothing else has changed
+abbrev pub SteppedUpto : {F : Type 0} → Direction → ℕ → ℕ → (ℕ → Bool) → ℕ → List (Cell F) → List Bool → List (Cell F) → List Bool → Type 0
+SteppedUpto d n i p j start before cells after = SteppedBy d n i (upto p j) start cells before after × Resupported n i start cells
+
+module _ {F : Type 0} (d : Direction) (n i : ℕ) (row : i < n) (p : ℕ → Bool) (j : ℕ) (column : j < n) (zero : F) (start cells next : List (Cell F)) (before marks after : List Bool) (room : n * n ≤ length cells) (places : n ≤ length marks) where
+  pub step_more : p j ≡ true → Steppable d (noted_support n cells i j) → SteppedUpto d n i p j start before cells marks
+      → next ≡ with_support zero cells (i * n + j) (stepped d (noted_support n cells i j)) → after ≡ cond (turned d (noted_support n cells i j)) (set marks j true) marks
+      → SteppedUpto d n i p (j + 1) start before next after
+  step_more passes can (steps, rest) steps_to turns = (
+    stepped_further n i row p start cells before marks j d next after steps passes (stepped_once n cells room i j row column zero marks places next after d can steps_to turns),
+    resupported_more n rest (set_rest n cells room i j row column zero marks places next after _ steps_to),
   )

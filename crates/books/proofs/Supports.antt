@@ -113,8 +113,3 @@ module _ {F : Type 0} (m : Meaning F) (bounded : Bounded m) (circleless : Circle
     pub settled_support : (j : ℕ) → j < m.size → s j ≡ support m i j
     unfolding support
     settled_support j below = settled j below ∙ counted_same m (reached i s) (reaches m i) settled_reached j
-
-  -- and the support numbers are one
-  pub support_settled : i < m.size → Settled m i (support m i)
-  unfolding support
-  support_settled block j below = counted_same m (reaches m i) (reached i (support m i)) (λ k h. sym (support_reached block k)) j

@@ -6,7 +6,7 @@
 --   Reaches     a chain goes from one block to another
 --   Circleless  no chain of one line or more leads back to its start
 --   Lawful      the laws of every book
---   Safe        a line that closes no circle
+--   Free        a line that may be set
 --   reaches, support, needed, walks, total   what the queries answer, worked out from the lines
 use Rattle.std.specs.Prelude.{◌≡◌, ℕ, zero, suc, ◌+◌, ◌<◌, ◌≤◌, Bool, true, false, cond, not, ◌&&◌, ◌||◌, is_some, Some, None, Option, ◌==◌}
 use Rattle.factors.specs.Ring.{Operations}
@@ -52,11 +52,6 @@ pub record Lawful {F : Type 0} (m : Meaning F) : Type 0 where
   pub bounded : Bounded m
   pub acyclic : Circleless m
 
--- a line that may be set at (a,b) closes no circle; to set none is always safe
-abbrev pub Safe : {F : Type 0} → Meaning F → ℕ → ℕ → Option F → Type 0
-Safe m a b (Some f) = Circleless (with_line m a b (Some f))
-Safe m a b None = Unit {0}
-
 -- some number below n passes the test
 abbrev pub any_below : ℕ → (ℕ → Bool) → Bool
 any_below zero p = false
@@ -75,6 +70,11 @@ reaches_within m (suc k) a b = a == b || any_below m.size (λ c. stands m a c &&
 -- block a reaches b: no chain of a circleless book has as many lines as there are blocks
 unfoldable pub reaches : {F : Type 0} → Meaning F → ℕ → ℕ → Bool
 reaches m a b = reaches_within m m.size a b
+
+-- a line may be set at (a,b) if b does not reach a, so that it closes no circle; to set none is always allowed
+abbrev pub Free : {F : Type 0} → Meaning F → ℕ → ℕ → Option F → Type 0
+Free m a b (Some f) = reaches m b a ≡ false
+Free m a b None = Unit {0}
 
 -- the support number of (a,b): how many lines (l,b) there are for which a reaches l
 unfoldable pub support : {F : Type 0} → Meaning F → ℕ → ℕ → ℕ

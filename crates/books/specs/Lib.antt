@@ -1,9 +1,9 @@
+pub mod Books
 pub mod Calls
 pub mod Cells
 pub mod Graph
 pub mod Kept
 pub mod Laws
-pub mod Plain
 pub mod Rows
 pub mod Walks
 pub mod Worked

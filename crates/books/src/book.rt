@@ -8,6 +8,7 @@ use crate::fault::BookFault;
 use factors::factor::Factor;
 
 /// A book of one factor kind. Every call keeps `sound`, the condition that opening brings about.
+// The rules have each book name its condition, so it stands with the calls and not in a type.
 pub trait Book {
     type Kind: Factor;
 
@@ -16,9 +17,6 @@ pub trait Book {
 
     // the condition in which the laws and the promises hold
     ghost sound: { Self → Type 0 };
-
-    // what the condition says of every book: at most 64 blocks, lines only between blocks, no circle
-    ghost lawful: { (s : Self) → sound s → Lawful (meaning s) };
 
     // what a call of each effect may alter of what the implementation holds beside the meaning
     ghost alters: { Effect → Self → Self → Type 0 };
@@ -86,4 +84,7 @@ pub trait Book {
         ensures leaves { meaning self.new ≡ meaning self.old }
         ensures keeps { sound self.new }
         ensures same { alters (query_effect result) self.old self.new };
+
+    // The law of every book: at most 64 blocks, lines only between blocks, no circle.
+    ghost lawful: { (s : Self) → sound s → Lawful (meaning s) };
 }

@@ -5,6 +5,7 @@ ghost use Rattle.books.specs.Cells.{blank_cell, cell_line, with_cell_line};
 use factors::factor::Factor;
 
 /// What stands at a pair of blocks. The widest fields come first, which leaves the least padding.
+// The rules give a cell these four fields: with an Option of a factor, one of whole factors would take 16 bytes in place of 12.
 #[derive(Clone, Copy)]
 pub struct Cell<F> {
     pub(crate) total: F,
@@ -30,24 +31,17 @@ impl<F: Factor> Cell<F> {
     pub fn line(self) -> Option<F>
         ensures { result ≡ cell_line self }
     {
-        if self.stands { Some(self.factor) } else { None }
+        self.stands.then_some(self.factor)
     }
 
     /// The same cell with another line, or with none.
     pub(crate) fn with_line(self, line: Option<F>) -> Self
         ensures { result ≡ with_cell_line F.Factor.ring.ops.zero self line }
     {
-        match line {
-            Some(factor) => Cell {
-                factor,
-                stands: true,
-                ..self
-            },
-            None => Cell {
-                factor: F::zero(),
-                stands: false,
-                ..self
-            },
+        Cell {
+            factor: line.unwrap_or(F::zero()),
+            stands: line.is_some(),
+            ..self
         }
     }
 }

@@ -1,20 +1,22 @@
 // The refusals of a book and of a size.
-ghost use Rattle.std.specs.Prelude.{◌≡◌};
-ghost use Rattle.books.specs.Calls.{fault_number, size_fault_number};
+ghost use Rattle.std.specs.Prelude.{◌≡◌, Some};
+ghost use Rattle.books.specs.Calls.{fault_number, fault_text, size_fault_number};
+
+use std::fmt;
 
 /// Why a call of a book is refused.
 #[derive(Clone, Copy, PartialEq, Eq, Debug)]
 pub enum BookFault {
     /// One of the two numbers is no block of the book.
-    NoBlock,
+    NoBlock = 1,
     /// A line would go from a block to itself.
-    SameBlock,
+    SameBlock = 2,
     /// The line stands already.
-    LineStands,
+    LineStands = 3,
     /// The lower block reaches the upper one, so that the line would close a circle.
-    Circle,
+    Circle = 4,
     /// The line does not stand.
-    NoLine,
+    NoLine = 5,
 }
 
 impl BookFault {
@@ -22,13 +24,16 @@ impl BookFault {
     pub fn number(self) -> u8
         ensures { result ≡ fault_number self }
     {
-        match self {
-            BookFault::NoBlock => 1,
-            BookFault::SameBlock => 2,
-            BookFault::LineStands => 3,
-            BookFault::Circle => 4,
-            BookFault::NoLine => 5,
-        }
+        self as u8
+    }
+}
+
+// As a refused code prints: a trait for the number of a refusal would be longer than the lines that it saves.
+impl fmt::Display for BookFault {
+    ghost output = { λ fault. Some (fault_text fault) };
+
+    fn fmt<W: fmt::Write>(&self, f: &mut fmt::Formatter<W>) -> fmt::Result {
+        write!(f, "number {}", self.number())
     }
 }
 
@@ -36,9 +41,9 @@ impl BookFault {
 #[derive(Clone, Copy, PartialEq, Eq, Debug)]
 pub enum SizeFault {
     /// The size is 0 or above 64.
-    SizeOutOfRange,
+    SizeOutOfRange = 16,
     /// There are fewer cells than pairs of blocks.
-    TooFewCells,
+    TooFewCells = 17,
 }
 
 impl SizeFault {
@@ -46,9 +51,6 @@ impl SizeFault {
     pub fn number(self) -> u8
         ensures { result ≡ size_fault_number self }
     {
-        match self {
-            SizeFault::SizeOutOfRange => 16,
-            SizeFault::TooFewCells => 17,
-        }
+        self as u8
     }
 }

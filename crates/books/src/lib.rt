@@ -3,6 +3,7 @@
 
 pub mod book;
 pub mod cell;
+pub mod cell_book;
 pub mod examples;
 pub mod fault;
 pub mod kept;
@@ -15,4 +16,5 @@ pub mod size;
 mod square;
 #[cfg(test)]
 mod tests;
+mod upkeep;
 mod walks;

@@ -10,15 +10,11 @@ pub(crate) fn no_marks() -> [bool; LARGEST_SIZE]
     [false; LARGEST_SIZE]
 }
 
-/// The first marked block of the first `n`.
+/// The first marked block of the first `n`. That is the number of the book's blocks, and not the length of the list; were a shorter
+/// slice handed over, each contract of the work set would cut it anew.
 pub(crate) fn first_marked(marks: &[bool], n: usize) -> Option<usize>
     requires { n ≤ length marks.now }
     ensures { MatchOption result ((l : ℕ) → l < n → slice_index_or marks.now l false ≡ false) (λ l. (l < n) × (slice_index_or marks.now l false ≡ true)) }
 {
-    for l in 0..n {
-        if marks[l] {
-            return Some(l);
-        }
-    }
-    None
+    marks[..n].iter().position(|marked| *marked)
 }

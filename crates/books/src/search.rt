@@ -9,18 +9,16 @@ use crate::size::LARGEST_SIZE;
 use crate::square::line_at;
 use factors::factor::Factor;
 
-/// A block that is seen and not yet visited.
+/// A block that is seen and not yet visited; `n` goes beside the marks as where the first marked block is looked for.
 fn next_block(seen: &[bool], visited: &[bool], n: usize) -> Option<usize>
     requires seen { n ≤ length seen.now }
     requires visited { n ≤ length visited.now }
     ensures { MatchOption result ((l : ℕ) → l < n → slice_index_or seen.now l false ≡ true → slice_index_or visited.now l false ≡ true) (λ l. (l < n) × (slice_index_or seen.now l false ≡ true) × (slice_index_or visited.now l false ≡ false)) }
 {
-    for l in 0..n {
-        if seen[l] && !visited[l] {
-            return Some(l);
-        }
-    }
-    None
+    seen[..n]
+        .iter()
+        .zip(&visited[..n])
+        .position(|(seen, visited)| *seen && !*visited)
 }
 
 /// Marks each block to which a line leads from `l` as seen.
@@ -44,6 +42,7 @@ pub(crate) fn search<F: Factor>(cells: &[Cell<F>], n: usize, a: usize) -> [bool;
     requires block { a < n }
     ensures { (j : ℕ) → j < n → slice_index_or result j false ≡ reaches (cells_meaning n cells.now) a j }
 {
+    // two lists, and not one of three states: what is answered is the one that says what is seen
     let mut seen = no_marks();
     let mut visited = no_marks();
     seen[a] = true;

@@ -1,4 +1,8 @@
 // The square of cells of a book: which cell is whose, and the lines that they hold.
+//
+// The cells and the number of blocks go beside each other: by the rules a book lends its whole slice to functions, and of a struct
+// that borrowed it again nothing would be known once a method had written. Two blocks go as two numbers, each below that number,
+// since loops vary one of them and leave the other.
 ghost use Rattle.std.specs.Prelude.{◌≡◌, ◌+◌, ◌*◌, ◌<◌, ◌≤◌, true, false, not, ◌&&◌, ◌++◌, length, drop, replicate, Some, None, Ok, Err, nat_lt};
 ghost use Rattle.books.specs.Calls.{refuse, opened_size, entering, striking, factoring, needing};
 ghost use Rattle.books.specs.Graph.{reaches, needed};
@@ -15,10 +19,14 @@ use factors::factor::Factor;
 pub(crate) fn openable_size(size: usize, cells: usize) -> usize
     ensures { result ≡ opened_size size cells }
 {
-    match check_size(size, cells) {
-        Ok(()) => size,
-        Err(_) => 0,
-    }
+    check_size(size, cells).map_or(0, |()| size)
+}
+
+/// Makes every one of these cells alike. The library's `fill` would ask that a factor's clone cannot fail.
+fn fill<F: Factor>(cells: &mut [Cell<F>], cell: Cell<F>)
+    ensures { cells.new ≡ replicate (length cells.old) cell }
+{
+    cells.fill_with(move || cell);
 }
 
 /// Makes the first `count` cells blank.
@@ -26,10 +34,7 @@ pub(crate) fn blank_cells<F: Factor>(cells: &mut [Cell<F>], count: usize)
     requires { count ≤ length cells.old }
     ensures { cells.new ≡ replicate count (blank_cell F.Factor.ring.ops.zero) ++ drop count cells.old }
 {
-    let blank = Cell::blank();
-    for k in 0..count {
-        cells[k] = blank;
-    }
+    fill(&mut cells[..count], Cell::blank());
 }
 
 /// Refuses a pair of which one is no block of a book of `n` blocks.
@@ -45,6 +50,7 @@ pub(crate) fn check_pair(n: usize, a: usize, b: usize) -> Result<(), BookFault>
 }
 
 /// The place of the cell of the pair `(a, b)`.
+#[tactic(auto, using(crate::proofs::Squares::place_within))]
 pub(crate) fn place<F: Factor>(cells: &[Cell<F>], n: usize, a: usize, b: usize) -> usize
     requires square { Square n cells.now }
     requires upper { a < n }
@@ -79,10 +85,10 @@ pub(crate) fn check_vacant<F: Factor>(
     if a == b {
         return Err(BookFault::SameBlock);
     }
-    match line_at(cells, n, a, b) {
-        Some(_) => Err(BookFault::LineStands),
-        None => Ok(()),
+    if line_at(cells, n, a, b).is_some() {
+        return Err(BookFault::LineStands);
     }
+    Ok(())
 }
 
 /// The factor of the line of the pair `(a, b)`, or why there is none.
@@ -97,10 +103,7 @@ pub(crate) fn standing_line<F: Factor>(
     ensures stands { elim result [ Ok f ↦ (a < n) × (b < n) × ((cells_meaning n cells.now).line a b ≡ Some f) × (striking (cells_meaning n cells.now) a b ≡ Ok tt) × (needing (cells_meaning n cells.now) a b ≡ Ok (needed (cells_meaning n cells.now) a b)) | Err e ↦ (striking (cells_meaning n cells.now) a b ≡ Err e) × (needing (cells_meaning n cells.now) a b ≡ Err e) ] }
 {
     check_pair(n, a, b)?;
-    match line_at(cells, n, a, b) {
-        Some(factor) => Ok(factor),
-        None => Err(BookFault::NoLine),
-    }
+    line_at(cells, n, a, b).ok_or(BookFault::NoLine)
 }
 
 /// Sets the line of the pair `(a, b)` anew.
@@ -119,6 +122,8 @@ pub(crate) fn set_line<F: Factor>(
     let k = place(cells, n, a, b);
     cells[k] = cells[k].with_line(line);
 }
+
+// A reader and a writer for each field: with one of each for the whole cell, every caller and contract would take out its field.
 
 /// The support number of the pair `(a, b)`.
 pub(crate) fn support_at<F: Factor>(cells: &[Cell<F>], n: usize, a: usize, b: usize) -> u16

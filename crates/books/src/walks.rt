@@ -1,5 +1,6 @@
 // The total of a pair, worked out from the lines: the sums over all chains of no line, of one line, of two, and so on.
 ghost use Rattle.std.specs.Prelude.{◌≡◌, ◌+◌, ◌*◌, ◌<◌};
+ghost use Rattle.std.specs.List.{fold, range_with_len};
 ghost use Rattle.books.specs.Graph.{walks, total};
 ghost use Rattle.books.specs.Cells.{Square, Scratched, cells_meaning};
 ghost use Rattle.books.specs.Walks.{Filled, noted_total, row_sum};
@@ -9,12 +10,14 @@ use crate::square::{line_at, noted, set_total};
 use factors::factor::Factor;
 
 /// The sum over the lines from `a` of the factor times what row `k` notes for the lower block.
+#[tactic(auto, using(crate::proofs::Fillings::sum_more))]
 fn sum_along<F: Factor>(cells: &[Cell<F>], n: usize, k: usize, a: usize) -> F
     requires square { Square n cells.now }
     requires row { k < n }
     requires block { a < n }
     ensures { result ≡ row_sum F.Factor.ring.ops n cells.now k a n }
 {
+    // a `for`: in a chain the closure that multiplies stands in another one, and what `noted` asks is not shown there
     let mut sum = F::zero();
     for c in 0..n {
         if let Some(factor) = line_at(cells, n, a, c) {
@@ -25,6 +28,7 @@ fn sum_along<F: Factor>(cells: &[Cell<F>], n: usize, k: usize, a: usize) -> F
 }
 
 /// The sum over all chains of `k` lines from `a` to `b`, where the rows before row `k` hold those of fewer lines.
+#[tactic(auto, using(crate::proofs::Fillings::filled_walks, crate::proofs::Fillings::walks_none))]
 fn walks_of<F: Factor>(cells: &[Cell<F>], n: usize, k: usize, a: usize, b: usize) -> F
     requires square { Square n cells.now }
     requires row { k < n }
@@ -66,6 +70,15 @@ fn fill_rows<F: Factor>(cells: &mut [Cell<F>], n: usize, b: usize)
     }
 }
 
+/// What every row notes for `a`, added up.
+fn sum_rows<F: Factor>(cells: &[Cell<F>], n: usize, a: usize) -> F
+    requires square { Square n cells.now }
+    requires block { a < n }
+    ensures { result ≡ fold (λ sum k. F.Factor.ring.ops.add sum (noted_total F.Factor.ring.ops n cells.now k a)) F.Factor.ring.ops.zero (range_with_len 0 n) }
+{
+    (0..n).fold(F::zero(), |sum, k| sum.add(noted(cells, n, k, a)))
+}
+
 /// The total from `a` to `b`. The totals of the cells are working space.
 pub(crate) fn total_of<F: Factor>(cells: &mut [Cell<F>], n: usize, a: usize, b: usize) -> F
     requires square { Square n cells.old }
@@ -74,9 +87,5 @@ pub(crate) fn total_of<F: Factor>(cells: &mut [Cell<F>], n: usize, a: usize, b: 
     ensures scratched { Scratched n cells.old cells.new }
 {
     fill_rows(cells, n, b);
-    let mut sum = F::zero();
-    for k in 0..n {
-        sum = sum.add(noted(cells, n, k, a));
-    }
-    sum
+    sum_rows(cells, n, a)
 }

@@ -1,21 +1,16 @@
-use Rattle.std.proofs.Common.{◌*◌, List, drop, sym, ap, ◌∙◌, subst}
-use Rattle.std.proofs.lemmas.List.{drop-set-lt}
-use Rattle.books.specs.Cells.{PlainSound, cells_meaning}
-use Rattle.books.specs.declared.cell.Cell.{Cell}
+use Rattle.std.proofs.Common.{ap, ◌∙◌}
+use Rattle.books.specs.Cells.{cells_meaning}
 use Rattle.books.proofs.Changes.{relined_meaning, change_sound}
-use Rattle.books.proofs.Squares.{place_below}
 use Rattle.books.proofs.plain.change_line.Goals as goal
 
-pub returns : goal.returns
-returns g c =
-    let zero = g.F.Factor.ring.ops.zero in
-    let n = c.args.n in
-    let cells = c.args.cells.now in
+pub returns-clause-leaves : goal.returns-clause-leaves
+returns-clause-leaves g c =
     let p = c.requires in
-    let room = p.sound.square.room in
-    let Sound : List (Cell g.row.F.Denot) → Type 0 = PlainSound zero n in
-    record {
-      leaves = ap (cells_meaning n) c.set_line.ensures ∙ relined_meaning zero n cells room c.args.a c.args.b p.upper p.lower c.args.line;
-      keeps = subst Sound (sym c.set_line.ensures) (change_sound zero n cells room c.args.a c.args.b p.upper p.lower c.args.line p.sound p.safe);
-      same = ap (drop (n * n)) c.set_line.ensures ∙ drop-set-lt (n * n) cells _ _ (place_below n c.args.a c.args.b p.upper p.lower);
-    }
+    ap (cells_meaning c.args.n) c.set_line.ensures
+    ∙ relined_meaning g.F.Factor.ring.ops.zero c.args.n c.args.cells.now p.sound.square.room c.args.a c.args.b p.upper p.lower c.args.line
+
+pub returns-clause-keeps : goal.returns-clause-keeps
+returns-clause-keeps g c =
+    let p = c.requires in
+    change_sound g.F.Factor.ring.ops.zero c.args.n c.args.cells.now p.sound.square.room c.args.a c.args.b p.upper p.lower c.args.line p.sound
+    c.set_line.new.cells c.set_line.ensures p.free

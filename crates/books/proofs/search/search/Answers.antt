@@ -1,6 +1,6 @@
 use Rattle.std.proofs.Common.{Bool, true, List, set, sym, subst₂}
 use Rattle.books.specs.Cells.{cells_meaning}
-use Rattle.books.proofs.Searches.{Searched, search_starts, search_visits, search_falls, search_ends}
+use Rattle.books.proofs.Searches.{Searched, search_starts, search_visits, search_ends}
 use Rattle.books.specs.Cells.{cells_bounded}
 use Rattle.books.proofs.search.search.Goals as goal
 
@@ -10,11 +10,6 @@ loop-l-init g c =
     let Start : List Bool → List Bool → Type 0 = λ seen visited. Searched m c.args.a (set seen c.args.a true) visited in
     subst₂ Start (sym c.no_marks-seen.ensures) (sym c.no_marks-visited.ensures)
     (search_starts m c.args.a c.requires.square.small c.requires.block)
-
-pub loop-l-smaller : goal.loop-l-smaller
-loop-l-smaller g c =
-    let picked = c.in-Some.ensures in
-    search_falls (cells_meaning c.args.n c.args.cells.now) c.args.a c.loop-l.seen c.loop-l.visited c.loop-l.invariant c.in-Some.l picked.0 picked.2 c.requires.square.small
 
 pub loop-l-preserved : goal.loop-l-preserved
 loop-l-preserved g c =
