@@ -4,11 +4,11 @@
 --   counted  all of them
 --   no_grants, no_refusals, no_answers   nothing counted yet
 --   granting, refusing, tallying   the same with one answer more, under its own kind
-use Rattle.std.specs.Prelude.{ℕ, ◌+◌, ◌%◌, ◌^◌, true, false}
+use Rattle.std.specs.Prelude.{ℕ, ◌+◌, ◌%◌, ◌^◌, true, false, Ok, Err, Result}
 use Rattle.books.specs.declared.fault.BookFault.{BookFault}
 use Rattle.books.specs.declared.fault.BookFault.TheVariants.{NoBlock, SameBlock, LineStands, Circle, NoLine}
 use Rattle.comparison.specs.declared.answer.Answer.{Answer}
-use Rattle.comparison.specs.declared.answer.Answer.TheVariants.{Entered, Struck, Holds, Support, Code, Refused}
+use Rattle.comparison.specs.declared.answer.Answer.TheVariants.{Entered, Struck, Holds, Support, Code}
 use Rattle.comparison.specs.declared.tally.grants.Grants.{Grants}
 use Rattle.comparison.specs.declared.tally.refusals.Refusals.{Refusals}
 use Rattle.comparison.specs.declared.tally.Tally.{Tally}
@@ -39,7 +39,6 @@ granting g (Holds true) = record g { affirmed = g.affirmed + 1 }
 granting g (Holds false) = record g { denied = g.denied + 1 }
 granting g (Support lines) = record g { supports = g.supports + 1; support_sum = (g.support_sum + lines) % 2 ^ 64 }
 granting g (Code code) = record g { codes = g.codes + 1; code_sum = (g.code_sum + code) % 2 ^ 64 }
-granting g (Refused fault) = g
 
 abbrev pub refusing : Refusals → BookFault → Refusals
 refusing r NoBlock = record r { no_block = r.no_block + 1 }
@@ -48,10 +47,6 @@ refusing r LineStands = record r { line_stands = r.line_stands + 1 }
 refusing r Circle = record r { circle = r.circle + 1 }
 refusing r NoLine = record r { no_line = r.no_line + 1 }
 
-abbrev pub tallying : Tally → Answer → Tally
-tallying t (Refused fault) = record t { refusals = refusing t.refusals fault }
-tallying t Entered = record t { grants = granting t.grants Entered }
-tallying t Struck = record t { grants = granting t.grants Struck }
-tallying t (Holds holds) = record t { grants = granting t.grants (Holds holds) }
-tallying t (Support lines) = record t { grants = granting t.grants (Support lines) }
-tallying t (Code code) = record t { grants = granting t.grants (Code code) }
+abbrev pub tallying : Tally → Result Answer BookFault → Tally
+tallying t (Ok answer) = record t { grants = granting t.grants answer }
+tallying t (Err fault) = record t { refusals = refusing t.refusals fault }

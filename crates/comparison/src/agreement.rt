@@ -1,5 +1,5 @@
 // Two books that are put the same calls: whether they answer alike.
-ghost use Rattle.std.specs.Prelude.{◌≡◌, ◌≢◌, Ok, Err, true, is_ok, IfOk};
+ghost use Rattle.std.specs.Prelude.{◌≡◌, ◌≢◌, true, is_ok, IfOk, IfErr};
 ghost use Rattle.comparison.specs.Answers.{answer_of, book_after};
 ghost use Rattle.comparison.specs.Counts.{counted};
 ghost use Rattle.comparison.specs.Runs.{Tallied};
@@ -9,7 +9,10 @@ use crate::call::Call;
 use crate::draw::draw_call;
 use crate::sequence::Sequence;
 use crate::tally::Tally;
+use asking::answers::Answers;
+use asking::sound::Books;
 use books::book::Book;
+use books::fault::BookFault;
 use factors::factor::Factor;
 use std::fmt;
 
@@ -21,47 +24,39 @@ pub const CALLS: u32 = 5000;
 pub struct Difference<F> {
     earlier: u32,
     call: Call<F>,
-    kept: Answer,
-    plain: Answer,
+    answers: Answers<Answer>,
 }
 
 impl<F: Factor> fmt::Display for Difference<F> {
     fn fmt<W: fmt::Write>(&self, f: &mut fmt::Formatter<W>) -> fmt::Result {
-        let earlier = self.earlier;
-        let call = self.call;
-        let kept = self.kept;
-        let plain = self.plain;
         write!(
             f,
-            "{earlier} calls answered alike, then {call}: {kept} kept, {plain} plain"
+            "{} calls answered alike, then {}: {}",
+            self.earlier, self.call, self.answers
         )
     }
 }
 
 /// Puts one call to both books after earlier ones, and hands the answer back if it is the same.
 fn agree<F: Factor, K: Book<Kind = F>, P: Book<Kind = F>>(
-    kept: &mut K,
-    plain: &mut P,
+    books: &mut Books<K, P>,
     earlier: u32,
     call: Call<F>,
-) -> Result<Answer, Difference<F>>
-    requires { (K.Book.sound kept.old) × (P.Book.sound plain.old) }
-    ensures answers { IfOk result (λ answer. answer ≡ answer_of F.Factor.ring.ops F.Factor.coding (K.Book.meaning kept.old) call) }
-    ensures alike { K.Book.meaning kept.old ≡ P.Book.meaning plain.old → is_ok result ≡ true }
-    ensures differs { elim result [ Ok _ ↦ Unit {0} | Err difference ↦ difference.kept ≢ difference.plain ] }
-    ensures leaves { (K.Book.meaning kept.new ≡ book_after (K.Book.meaning kept.old) call) × (P.Book.meaning plain.new ≡ book_after (P.Book.meaning plain.old) call) }
-    ensures keeps { (K.Book.sound kept.new) × (P.Book.sound plain.new) }
+) -> Result<Result<Answer, BookFault>, Difference<F>>
+    ensures answers { IfOk result (λ answer. answer ≡ answer_of F.Factor.ring.ops F.Factor.coding (K.Book.meaning books.old.kept) call) }
+    ensures alike { K.Book.meaning books.old.kept ≡ P.Book.meaning books.old.plain → is_ok result ≡ true }
+    ensures differs { IfErr result (λ difference. difference.answers.kept ≢ difference.answers.plain) }
+    ensures leaves { (K.Book.meaning books.new.kept ≡ book_after (K.Book.meaning books.old.kept) call) × (P.Book.meaning books.new.plain ≡ book_after (P.Book.meaning books.old.plain) call) }
 {
-    let kept_answer = ask(kept, call);
-    let plain_answer = ask(plain, call);
-    if kept_answer == plain_answer {
-        Ok(kept_answer)
+    let kept = ask(&mut books.kept, call);
+    let plain = ask(&mut books.plain, call);
+    if kept == plain {
+        Ok(kept)
     } else {
         Err(Difference {
             earlier,
             call,
-            kept: kept_answer,
-            plain: plain_answer,
+            answers: Answers { kept, plain },
         })
     }
 }
@@ -69,22 +64,19 @@ fn agree<F: Factor, K: Book<Kind = F>, P: Book<Kind = F>>(
 /// Puts calls to two books of the same size, and counts the answers until one differs.
 #[tactic(auto, using(crate::proofs::Runs::tallied_none, crate::proofs::Runs::tallied_more))]
 pub fn compare<F: Factor, K: Book<Kind = F>, P: Book<Kind = F>>(
-    kept: &mut K,
-    plain: &mut P,
+    books: &mut Books<K, P>,
     sequence: &mut Sequence,
     size: u8,
 ) -> Result<Tally, Difference<F>>
-    requires { (K.Book.sound kept.old) × (P.Book.sound plain.old) }
-    ensures all { elim result [ Ok tally ↦ counted tally ≡ 5000 | Err _ ↦ Unit {0} ] }
-    ensures tallies { IfOk result (λ tally. Tallied F.Factor.ring.ops F.Factor.coding (K.Book.meaning kept.old) 5000 (K.Book.meaning kept.new) tally) }
-    ensures alike { K.Book.meaning kept.old ≡ P.Book.meaning plain.old → is_ok result ≡ true }
-    ensures differs { elim result [ Ok _ ↦ Unit {0} | Err difference ↦ difference.kept ≢ difference.plain ] }
-    ensures keeps { (K.Book.sound kept.new) × (P.Book.sound plain.new) }
+    ensures all { IfOk result (λ tally. counted tally ≡ 5000) }
+    ensures tallies { IfOk result (λ tally. Tallied F.Factor.ring.ops F.Factor.coding (K.Book.meaning books.old.kept) 5000 (K.Book.meaning books.new.kept) tally) }
+    ensures alike { K.Book.meaning books.old.kept ≡ P.Book.meaning books.old.plain → is_ok result ≡ true }
+    ensures differs { IfErr result (λ difference. difference.answers.kept ≢ difference.answers.plain) }
 {
     let mut tally = Tally::none();
     for earlier in 0..CALLS {
         let call = draw_call(sequence, size);
-        tally.count(agree(kept, plain, earlier, call)?);
+        tally.count(agree(books, earlier, call)?);
     }
     Ok(tally)
 }

@@ -1,14 +1,15 @@
 // What a book answers to a call.
 ghost use Rattle.std.specs.Prelude.{◌≡◌};
-ghost use Rattle.comparison.specs.Answers.{told, answer_of, book_after};
+ghost use Rattle.comparison.specs.Answers.{answer_of, book_after};
 
 use crate::call::Call;
+use asking::sound::SoundBook;
 use books::book::Book;
 use books::fault::BookFault;
 use factors::factor::Factor;
 use std::fmt;
 
-/// What a book answers to a call: what it grants, or why it refuses.
+/// What a book grants to a call.
 #[derive(Clone, Copy, PartialEq, Eq)]
 pub enum Answer {
     Entered,
@@ -19,7 +20,6 @@ pub enum Answer {
     Support(u16),
     /// A factor or a total, by its code.
     Code(u64),
-    Refused(BookFault),
 }
 
 impl fmt::Display for Answer {
@@ -31,47 +31,33 @@ impl fmt::Display for Answer {
             Answer::Holds(false) => f.write_str("no"),
             Answer::Support(lines) => write!(f, "{lines} lines"),
             Answer::Code(code) => write!(f, "code {code}"),
-            Answer::Refused(fault) => {
-                let number = fault.number();
-                write!(f, "refused (number {number})")
-            }
         }
     }
 }
 
-/// What a call is granted.
-fn granted<F: Factor, B: Book<Kind = F>>(book: &mut B, call: Call<F>) -> Result<Answer, BookFault>
-    requires { B.Book.sound book.old }
-    ensures answers { told (λ answer. answer) result ≡ answer_of F.Factor.ring.ops F.Factor.coding (B.Book.meaning book.old) call }
-    ensures leaves { B.Book.meaning book.new ≡ book_after (B.Book.meaning book.old) call }
-    ensures keeps { B.Book.sound book.new }
+/// Puts one call to a book, which grants or refuses it. It stands beside the `ask` of the tariff: a call has numbers and any kind
+/// of factors, a question of the tariff has its own words, and one of them takes two calls.
+pub fn ask<F: Factor, B: Book<Kind = F>>(
+    asked: &mut SoundBook<B>,
+    call: Call<F>,
+) -> Result<Answer, BookFault>
+    ensures answers { result ≡ answer_of F.Factor.ring.ops F.Factor.coding (B.Book.meaning asked.old) call }
+    ensures leaves { B.Book.meaning asked.new ≡ book_after (B.Book.meaning asked.old) call }
 {
+    let book = &mut asked.book;
     match call {
-        Call::Enter(pair, factor) => {
-            book.enter(pair.upper, pair.lower, factor)?;
-            Ok(Answer::Entered)
-        }
-        Call::Strike(pair) => {
-            book.strike(pair.upper, pair.lower)?;
-            Ok(Answer::Struck)
-        }
-        Call::Factor(pair) => Ok(Answer::Code(book.factor(pair.upper, pair.lower)?.code())),
-        Call::Reach(pair) => Ok(Answer::Holds(book.reach(pair.upper, pair.lower)?)),
-        Call::Support(pair) => Ok(Answer::Support(book.support(pair.upper, pair.lower)?)),
-        Call::Need(pair) => Ok(Answer::Holds(book.need(pair.upper, pair.lower)?)),
-        Call::Total(pair) => Ok(Answer::Code(book.total(pair.upper, pair.lower)?.code())),
-    }
-}
-
-/// Puts one call to a book.
-pub fn ask<F: Factor, B: Book<Kind = F>>(book: &mut B, call: Call<F>) -> Answer
-    requires { B.Book.sound book.old }
-    ensures answers { result ≡ answer_of F.Factor.ring.ops F.Factor.coding (B.Book.meaning book.old) call }
-    ensures leaves { B.Book.meaning book.new ≡ book_after (B.Book.meaning book.old) call }
-    ensures keeps { B.Book.sound book.new }
-{
-    match granted(book, call) {
-        Ok(answer) => answer,
-        Err(fault) => Answer::Refused(fault),
+        Call::Enter(pair, factor) => book
+            .enter(pair.upper, pair.lower, factor)
+            .map(|()| Answer::Entered),
+        Call::Strike(pair) => book.strike(pair.upper, pair.lower).map(|()| Answer::Struck),
+        Call::Factor(pair) => book
+            .factor(pair.upper, pair.lower)
+            .map(|factor| Answer::Code(factor.code())),
+        Call::Reach(pair) => book.reach(pair.upper, pair.lower).map(Answer::Holds),
+        Call::Support(pair) => book.support(pair.upper, pair.lower).map(Answer::Support),
+        Call::Need(pair) => book.need(pair.upper, pair.lower).map(Answer::Holds),
+        Call::Total(pair) => book
+            .total(pair.upper, pair.lower)
+            .map(|total| Answer::Code(total.code())),
     }
 }

@@ -9,6 +9,7 @@ mod sequence;
 mod tally;
 
 use agreement::{CALLS, compare};
+use asking::sound::{Books, SoundBook};
 use books::cell::Cell;
 use books::kept::KeptBook;
 use books::plain::PlainBook;
@@ -28,23 +29,38 @@ const CELLS: usize = LARGEST_SIZE * LARGEST_SIZE;
 // where the sequence begins
 const SEED: u64 = 2026;
 
+/// A kind of factors with its name.
+trait Named: Factor {
+    const NAME: &'static str;
+}
+
+impl Named for Whole {
+    const NAME: &'static str = "whole";
+}
+
+impl Named for Depth {
+    const NAME: &'static str = "depth";
+}
+
 /// Compares two books of one size and one kind of factors, and says how they answered.
-fn run<F: Factor + Clone>(
-    rt: &HostRuntime,
-    sequence: &mut Sequence,
-    kind: &str,
-    size: u8,
-) -> io::Result<()> {
+fn run<F: Named>(rt: &HostRuntime, sequence: &mut Sequence, size: u8) -> io::Result<()> {
     let mut kept_cells = vec![in rt.alloc(); Cell::<F>::blank(); CELLS]?;
     let mut plain_cells = vec![in rt.alloc(); Cell::<F>::blank(); CELLS]?;
-    let mut kept = KeptBook::open(kept_cells.as_mut_slice(), usize::from(size));
-    let mut plain = PlainBook::open(plain_cells.as_mut_slice(), usize::from(size));
-    match compare(&mut kept, &mut plain, sequence, size) {
+    let mut books = Books {
+        kept: SoundBook {
+            book: KeptBook::open(kept_cells.as_mut_slice(), usize::from(size)),
+        },
+        plain: SoundBook {
+            book: PlainBook::open(plain_cells.as_mut_slice(), usize::from(size)),
+        },
+    };
+    match compare(&mut books, sequence, size) {
         Ok(tally) => println!(rt;
-            "size {size}, {kind} factors: {CALLS} calls answered alike, {tally}"
+            "size {size}, {} factors: {CALLS} calls answered alike, {tally}",
+            F::NAME
         ),
         Err(difference) => {
-            println!(rt; "size {size}, {kind} factors: {difference}")?;
+            println!(rt; "size {size}, {} factors: {difference}", F::NAME)?;
             Err(io::Error::other("two books answer differently"))
         }
     }
@@ -53,8 +69,8 @@ fn run<F: Factor + Clone>(
 fn main(rt: HostRuntime) -> io::Result<()> {
     let mut sequence = Sequence::new(SEED);
     for size in SIZES {
-        run::<Whole>(&rt, &mut sequence, "whole", size)?;
-        run::<Depth>(&rt, &mut sequence, "depth", size)?;
+        run::<Whole>(&rt, &mut sequence, size)?;
+        run::<Depth>(&rt, &mut sequence, size)?;
     }
     Ok(())
 }

@@ -10,7 +10,8 @@ const INCREMENT: u64 = 1_442_695_040_888_963_407;
 // the low bits of a number repeat soon, so that these are left out
 const SHORT_BITS: u32 = 32;
 
-/// A sequence of numbers, each worked out from the one before.
+/// A sequence of numbers, each worked out from the one before. It has no end, so `next` answers a number: that of an
+/// `Iterator` would answer an `Option`, which every draw would have to open.
 #[derive(Drop)]
 pub struct Sequence {
     state: u64,

@@ -6,6 +6,7 @@ mod grants;
 mod refusals;
 
 use crate::answer::Answer;
+use books::fault::BookFault;
 use grants::Grants;
 use refusals::Refusals;
 use std::fmt;
@@ -29,30 +30,27 @@ impl Tally {
     }
 
     /// Counts one call by its answer.
-    pub fn count(&mut self, answer: Answer)
+    pub fn count(&mut self, answer: Result<Answer, BookFault>)
         requires { counted self.old + 1 < 2 ^ 32 }
         ensures counts { self.new ≡ tallying self.old answer }
         ensures one { counted self.new ≡ counted self.old + 1 }
     {
         match answer {
-            Answer::Entered => self.grants.count_entered(),
-            Answer::Struck => self.grants.count_struck(),
-            Answer::Holds(holds) => self.grants.count_holds(holds),
-            Answer::Support(lines) => self.grants.count_support(lines),
-            Answer::Code(code) => self.grants.count_code(code),
-            Answer::Refused(fault) => self.refusals.count(fault),
+            Ok(answer) => self.grants.count(answer),
+            Err(fault) => self.refusals.count(fault),
         }
     }
 }
 
 impl fmt::Display for Tally {
     fn fmt<W: fmt::Write>(&self, f: &mut fmt::Formatter<W>) -> fmt::Result {
-        let granted = self.grants.all();
-        let refused = self.refusals.all();
-        let grants = &self.grants;
-        let refusals = &self.refusals;
-        writeln!(f, "{granted} granted, {refused} refused")?;
-        writeln!(f, "  granted: {grants}")?;
-        write!(f, "  refused: {refusals}")
+        writeln!(
+            f,
+            "{} granted, {} refused",
+            self.grants.all(),
+            self.refusals.all()
+        )?;
+        writeln!(f, "  granted: {}", self.grants)?;
+        write!(f, "  refused: {}", self.refusals)
     }
 }

@@ -1,8 +1,12 @@
-// The blocks of a town's tariff and the lines between them.
+// A town's tariff: its blocks and the lines between them, what a book of it is asked, and the task that is told of it.
 #![tactic(auto)]
 
 ghost use Rattle.std.specs.Prelude.{◌≡◌};
 ghost use Rattle.tariff.specs.Blocks.{block_number};
+
+pub mod answer;
+pub mod question;
+pub mod task;
 
 use std::fmt;
 
@@ -49,7 +53,11 @@ pub const BLOCKS: [Block; 6] = [
     Block::Discount,
 ];
 
-/// One block takes in another as often as the factor says.
+/// How many cells a book of the tariff takes: one for each pair of blocks.
+pub const CELLS: usize = BLOCKS.len() * BLOCKS.len();
+
+/// One block takes in another as often as the factor says. The blocks are fields of the line and no pair in it, since each
+/// line of the table below would be longer by that pair.
 #[derive(Clone, Copy)]
 pub struct Line {
     pub upper: Block,

@@ -1,180 +1,61 @@
 // A town's tariff from its first line to a change, told for a person from a kept and from a plain book.
 #![tactic(auto)]
 
-mod answer;
-mod question;
+ghost use Rattle.std.specs.Prelude.{◌≡◌};
+ghost use Rattle.tariff.specs.Answers.{book_after};
 
-use answer::Answers;
+use asking::answers::Answers;
+use asking::sound::{Books, SoundBook};
 use books::book::Book;
 use books::cell::Cell;
 use books::kept::KeptBook;
 use books::plain::PlainBook;
 use factors::whole::Whole;
-use question::{Question, ask};
 use std::io;
-use tariff::{BLOCKS, Block, LINES, Line};
+use tariff::question::{Question, ask};
+use tariff::task::{Task, Teller};
+use tariff::{BLOCKS, CELLS};
 
-// a cell for each pair of blocks
-const CELLS: usize = BLOCKS.len() * BLOCKS.len();
-
-/// Puts one question to both books, and says what each answers.
-fn say<K: Book<Kind = Whole>, P: Book<Kind = Whole>>(
-    rt: &HostRuntime,
-    kept: &mut K,
-    plain: &mut P,
-    question: Question,
-) -> io::Result<()>
-    requires { (K.Book.sound kept.old) × (P.Book.sound plain.old) }
-    ensures keeps { (K.Book.sound kept.new) × (P.Book.sound plain.new) }
-{
-    let answers = Answers {
-        kept: ask(kept, question),
-        plain: ask(plain, question),
-    };
-    println!(rt; "  {question}: {answers}")
+/// Tells of two books side by side.
+#[derive(Drop)]
+struct TwoBooks<K: Book, P: Book> {
+    books: Books<K, P>,
 }
 
-/// How often the blocks of the tariff count in an airport trip.
-fn say_totals<K: Book<Kind = Whole>, P: Book<Kind = Whole>>(
-    rt: &HostRuntime,
-    kept: &mut K,
-    plain: &mut P,
-) -> io::Result<()>
-    requires { (K.Book.sound kept.old) × (P.Book.sound plain.old) }
-    ensures keeps { (K.Book.sound kept.new) × (P.Book.sound plain.new) }
-{
-    println!(rt;
-        "How often each block counts in an airport trip (over how many lines that end at it):"
-    )?;
-    let upper = Block::AirportTrip;
-    for lower in [Block::BaseCharge, Block::Luggage, Block::Discount] {
-        say(rt, kept, plain, Question::Count { upper, lower })?;
+impl<K: Book<Kind = Whole>, P: Book<Kind = Whole>> TwoBooks<K, P> {
+    fn say_opened(&mut self, rt: &HostRuntime) -> io::Result<()> {
+        println!(rt;
+            "A tariff is opened in two books: {} blocks kept, {} blocks plain. Its lines:",
+            self.books.kept.book.size(),
+            self.books.plain.book.size()
+        )
     }
-    Ok(())
 }
 
-/// Which blocks rest on this one, so that a change of it concerns them.
-fn say_resting<K: Book<Kind = Whole>, P: Book<Kind = Whole>>(
-    rt: &HostRuntime,
-    kept: &mut K,
-    plain: &mut P,
-    lower: Block,
-) -> io::Result<()>
-    requires { (K.Book.sound kept.old) × (P.Book.sound plain.old) }
-    ensures keeps { (K.Book.sound kept.new) × (P.Book.sound plain.new) }
-{
-    println!(rt; "What rests on {lower}:")?;
-    for upper in BLOCKS {
-        say(rt, kept, plain, Question::Rest { upper, lower })?;
+impl<K: Book<Kind = Whole>, P: Book<Kind = Whole>> Teller for TwoBooks<K, P> {
+    ghost asked = { λ s question t. (K.Book.meaning t.books.kept ≡ book_after (K.Book.meaning s.books.kept) question) × (P.Book.meaning t.books.plain ≡ book_after (P.Book.meaning s.books.plain) question) };
+
+    fn say(&mut self, rt: &HostRuntime, question: Question) -> io::Result<()> {
+        let answers = Answers {
+            kept: ask(&mut self.books.kept, question),
+            plain: ask(&mut self.books.plain, question),
+        };
+        println!(rt; "  {question}: {answers}")
     }
-    Ok(())
-}
-
-/// Which lines are needed to show the whole reach.
-fn say_needed<K: Book<Kind = Whole>, P: Book<Kind = Whole>>(
-    rt: &HostRuntime,
-    kept: &mut K,
-    plain: &mut P,
-) -> io::Result<()>
-    requires { (K.Book.sound kept.old) × (P.Book.sound plain.old) }
-    ensures keeps { (K.Book.sound kept.new) × (P.Book.sound plain.new) }
-{
-    println!(rt; "Which lines show the whole reach:")?;
-    for Line { upper, lower, .. } in LINES {
-        say(rt, kept, plain, Question::Need { upper, lower })?;
-    }
-    Ok(())
-}
-
-/// Enters the lines of the tariff.
-fn enter_lines<K: Book<Kind = Whole>, P: Book<Kind = Whole>>(
-    rt: &HostRuntime,
-    kept: &mut K,
-    plain: &mut P,
-) -> io::Result<()>
-    requires { (K.Book.sound kept.old) × (P.Book.sound plain.old) }
-    ensures keeps { (K.Book.sound kept.new) × (P.Book.sound plain.new) }
-{
-    let kept_size = kept.size();
-    let plain_size = plain.size();
-    println!(rt;
-        "A tariff is opened in two books: {kept_size} blocks kept, {plain_size} blocks plain. Its lines:"
-    )?;
-    for line in LINES {
-        say(rt, kept, plain, Question::Enter(line))?;
-    }
-    Ok(())
-}
-
-/// What the books answer as they stand.
-fn say_all<K: Book<Kind = Whole>, P: Book<Kind = Whole>>(
-    rt: &HostRuntime,
-    kept: &mut K,
-    plain: &mut P,
-) -> io::Result<()>
-    requires { (K.Book.sound kept.old) × (P.Book.sound plain.old) }
-    ensures keeps { (K.Book.sound kept.new) × (P.Book.sound plain.new) }
-{
-    say_totals(rt, kept, plain)?;
-    say_resting(rt, kept, plain, Block::Luggage)?;
-    say_needed(rt, kept, plain)
-}
-
-/// Tries to enter a line that would close a circle.
-fn close_circle<K: Book<Kind = Whole>, P: Book<Kind = Whole>>(
-    rt: &HostRuntime,
-    kept: &mut K,
-    plain: &mut P,
-) -> io::Result<()>
-    requires { (K.Book.sound kept.old) × (P.Book.sound plain.old) }
-    ensures keeps { (K.Book.sound kept.new) × (P.Book.sound plain.new) }
-{
-    println!(rt; "A line that would close a circle:")?;
-    let line = Line {
-        upper: Block::Luggage,
-        lower: Block::AirportTrip,
-        factor: 1,
-    };
-    say(rt, kept, plain, Question::Enter(line))
-}
-
-/// Strikes the lines by which luggage counts in the airport extra and in the day fare.
-fn free_luggage<K: Book<Kind = Whole>, P: Book<Kind = Whole>>(
-    rt: &HostRuntime,
-    kept: &mut K,
-    plain: &mut P,
-) -> io::Result<()>
-    requires { (K.Book.sound kept.old) × (P.Book.sound plain.old) }
-    ensures keeps { (K.Book.sound kept.new) × (P.Book.sound plain.new) }
-{
-    println!(rt; "Luggage becomes free in the airport extra and in the day fare:")?;
-    let lower = Block::Luggage;
-    for upper in [Block::AirportExtra, Block::DayFare] {
-        say(rt, kept, plain, Question::Strike { upper, lower })?;
-    }
-    Ok(())
-}
-
-/// The whole task: the tariff is entered and asked about, a circle is refused, and two lines are struck.
-fn tell<K: Book<Kind = Whole>, P: Book<Kind = Whole>>(
-    rt: &HostRuntime,
-    kept: &mut K,
-    plain: &mut P,
-) -> io::Result<()>
-    requires { (K.Book.sound kept.old) × (P.Book.sound plain.old) }
-    ensures keeps { (K.Book.sound kept.new) × (P.Book.sound plain.new) }
-{
-    enter_lines(rt, kept, plain)?;
-    say_all(rt, kept, plain)?;
-    close_circle(rt, kept, plain)?;
-    free_luggage(rt, kept, plain)?;
-    say_all(rt, kept, plain)
 }
 
 fn main(rt: HostRuntime) -> io::Result<()> {
     let mut kept_cells: [Cell<Whole>; CELLS] = [Cell::blank(); CELLS];
     let mut plain_cells: [Cell<Whole>; CELLS] = [Cell::blank(); CELLS];
-    let mut kept = KeptBook::open(&mut kept_cells, BLOCKS.len());
-    let mut plain = PlainBook::open(&mut plain_cells, BLOCKS.len());
-    tell(&rt, &mut kept, &mut plain)
+    let books = Books {
+        kept: SoundBook {
+            book: KeptBook::open(&mut kept_cells, BLOCKS.len()),
+        },
+        plain: SoundBook {
+            book: PlainBook::open(&mut plain_cells, BLOCKS.len()),
+        },
+    };
+    let mut teller = TwoBooks { books };
+    teller.say_opened(&rt)?;
+    Task { rt: &rt, teller }.tell()
 }

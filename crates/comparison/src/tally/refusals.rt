@@ -6,7 +6,7 @@ use books::fault::BookFault;
 use std::fmt;
 
 /// How many calls were refused by each number.
-#[derive(Drop)]
+#[derive(Default, Drop)]
 pub struct Refusals {
     no_block: u32,
     same_block: u32,
@@ -20,13 +20,7 @@ impl Refusals {
     pub fn none() -> Refusals
         ensures { result ≡ no_refusals }
     {
-        Refusals {
-            no_block: 0,
-            same_block: 0,
-            line_stands: 0,
-            circle: 0,
-            no_line: 0,
-        }
+        Refusals::default()
     }
 
     /// Counts one call.
@@ -58,14 +52,10 @@ impl Refusals {
 
 impl fmt::Display for Refusals {
     fn fmt<W: fmt::Write>(&self, f: &mut fmt::Formatter<W>) -> fmt::Result {
-        let no_block = self.no_block;
-        let same_block = self.same_block;
-        let line_stands = self.line_stands;
-        let circle = self.circle;
-        let no_line = self.no_line;
         write!(
             f,
-            "{no_block} by number 1 (no block), {same_block} by number 2 (same block), {line_stands} by number 3 (line stands), {circle} by number 4 (circle), {no_line} by number 5 (no line)"
+            "{} by number 1 (no block), {} by number 2 (same block), {} by number 3 (line stands), {} by number 4 (circle), {} by number 5 (no line)",
+            self.no_block, self.same_block, self.line_stands, self.circle, self.no_line
         )
     }
 }

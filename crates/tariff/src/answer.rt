@@ -1,8 +1,7 @@
-// What a book answers, and the answers of two books side by side.
-use books::fault::BookFault;
+// What a book of the tariff answers where it grants a question.
 use std::fmt;
 
-/// What a book answers to a question.
+/// What a book grants.
 #[derive(Clone, Copy)]
 pub enum Answer {
     Entered,
@@ -13,7 +12,6 @@ pub enum Answer {
     Rests(bool),
     /// Whether a line is needed to show the whole reach.
     Needed(bool),
-    Refused(BookFault),
 }
 
 impl fmt::Display for Answer {
@@ -26,25 +24,6 @@ impl fmt::Display for Answer {
             Answer::Rests(false) => f.write_str("no"),
             Answer::Needed(true) => f.write_str("needed"),
             Answer::Needed(false) => f.write_str("not needed"),
-            Answer::Refused(fault) => {
-                let number = fault.number();
-                write!(f, "refused (number {number})")
-            }
         }
-    }
-}
-
-/// The answers of a kept and of a plain book to the same question.
-#[derive(Clone, Copy)]
-pub struct Answers {
-    pub kept: Answer,
-    pub plain: Answer,
-}
-
-impl fmt::Display for Answers {
-    fn fmt<W: fmt::Write>(&self, f: &mut fmt::Formatter<W>) -> fmt::Result {
-        let kept = self.kept;
-        let plain = self.plain;
-        write!(f, "{kept} kept, {plain} plain")
     }
 }
