@@ -3,11 +3,12 @@
 --   count_at_most, count_none, count_some   how many pass
 --   count_only, count_unique, count_one_decides   just one passes
 --   count_counted   the count, said of a property that the test decides
---   count_range   the count, taken along the list of the numbers
-use Rattle.std.proofs.Common.{◌≡◌, ℕ, zero, suc, ◌+◌, ◌<◌, ◌≤◌, Bool, true, false, cond, eqb, Decides, sym, refl, ap, ◌∙◌, inl, inr, zero-add, add-one, one-add, add_comm, map, arith}
-use Rattle.std.specs.List.{count_by, sum_by, range_with_len}
+--   numbers_more, count_range   the count, taken along the list of the numbers
+use Rattle.std.proofs.Common.{◌≡◌, ℕ, zero, suc, ◌+◌, ◌<◌, ◌≤◌, Bool, true, false, cond, eqb, Decides, sym, refl, ap, ◌∙◌, inl, inr, zero-add, add-one, one-add, add_comm, List, [], ◌∷◌, ◌++◌, map, arith}
+use Rattle.std.specs.List.{count_by, range_with_len}
 use Rattle.std.proofs.lemmas.List.{map-id}
-use Rattle.std.proofs.lemmas.List.FromFn.{sum_by-map-range_with_len_more}
+use Rattle.std.proofs.lemmas.List.FromFn.{map-range_with_len_more}
+use Rattle.std.proofs.lemmas.List.Sums.{sum_by_push}
 use Rattle.std.proofs.lemmas.Bool.{both_ways, false_from_ne_true, cases_Bool, cases_eq, eq-eqb, eqb-true}
 use Rattle.std.proofs.lemmas.Bool.Decides.{Decides-below_or, not_from_Decides, nat_tests}
 use Rattle.books.specs.Graph.{any_below, count_below}
@@ -88,17 +89,19 @@ count_counted (suc n) p P each = elim (cases_Bool (p n)) [
   | inr e ↦ rw (e, zero-add) (passed (not_from_Decides (p n) (each n) e) (count_counted n p P each))
 ]
 
+-- the numbers below k + 1 are those below k, and k
+pub numbers_more : (k : ℕ) → range_with_len 0 (suc k) ≡ range_with_len 0 k ++ k ∷ []
+numbers_more k =
+    sym (map-id (range_with_len 0 (suc k)))
+    ∙ ap (λ (j : ℕ). map (λ (i : ℕ). i) (range_with_len 0 j)) (sym (add-one k))
+    ∙ map-range_with_len_more (λ (j : ℕ). j) 0 k k (zero-add k)
+    ∙ ap (λ (ks : List ℕ). ks ++ k ∷ []) (map-id (range_with_len 0 k))
+
 -- the numbers below n that pass the test, counted along the list of the numbers
 pub count_range : (n : ℕ) (p : ℕ → Bool) → count_by p (range_with_len 0 n) ≡ count_below n p
-count_range n p = ap (count_by p) (sym (map-id (range_with_len 0 n))) ∙ along n
-  where
-    test : ℕ → ℕ
-    test k = cond (p k) 1 0
-
-    along : (k : ℕ) → sum_by test (map (λ (j : ℕ). j) (range_with_len 0 k)) ≡ count_below k p
-    along zero = refl
-    along (suc k) =
-        ap (λ (j : ℕ). sum_by test (map (λ (i : ℕ). i) (range_with_len 0 j))) (sym (add-one k))
-        ∙ sum_by-map-range_with_len_more test (λ (j : ℕ). j) 0 k k (zero-add k)
-        ∙ ap (λ (j : ℕ). j + test k) (along k)
-        ∙ add_comm (count_below k p) (test k)
+count_range zero p = refl
+count_range (suc n) p =
+    ap (count_by p) (numbers_more n)
+    ∙ sum_by_push (λ (k : ℕ). cond (p k) 1 0) (range_with_len 0 n) n
+    ∙ ap (λ (k : ℕ). k + cond (p n) 1 0) (count_range n p)
+    ∙ add_comm (count_below n p) (cond (p n) 1 0)

@@ -6,12 +6,11 @@
 --   sum_range   a sum taken along the list of the numbers
 use Rattle.std.proofs.Common.{◌≡◌, ℕ, zero, suc, ◌<◌, map, sym, refl, ap, ◌∙◌, ap₂, inl, inr, add-one, arith}
 use Rattle.std.specs.List.{fold, range_with_len}
-use Rattle.std.proofs.lemmas.List.{map-id}
-use Rattle.std.proofs.lemmas.List.FromFn.{map-range_with_len_more}
 use Rattle.std.proofs.lemmas.List.Sums.{fold_push}
 use Rattle.std.proofs.lemmas.Bool.{cases_eq}
 use Rattle.factors.specs.Ring.{Operations, Ring}
 use Rattle.books.specs.Graph.{sum_below}
+use Rattle.books.proofs.Counts.{numbers_more}
 
 module _ {F : Type 0} (r : Ring F) where
   open r.ops use {zero as o, add as ◌⊕◌, mul as ◌⊗◌}
@@ -101,15 +100,8 @@ module _ {F : Type 0} (r : Ring F) where
 
 -- a sum taken along the list of the numbers
 pub sum_range : {F : Type 0} (r : Operations F) (f : ℕ → F) (n : ℕ) → fold (λ sum k. r.add sum (f k)) r.zero (range_with_len 0 n) ≡ sum_below r n f
-sum_range {F} r f n = ap (fold step r.zero) (sym (map-id (range_with_len 0 n))) ∙ along n
-  where
-    step : F → ℕ → F
-    step sum k = r.add sum (f k)
-
-    along : (k : ℕ) → fold step r.zero (map (λ (j : ℕ). j) (range_with_len 0 k)) ≡ sum_below r k f
-    along zero = refl
-    along (suc k) =
-        ap (λ (j : ℕ). fold step r.zero (map (λ (i : ℕ). i) (range_with_len 0 j))) (sym (add-one k))
-        ∙ ap (fold step r.zero) (map-range_with_len_more (λ (j : ℕ). j) 0 k k (omega arith))
-        ∙ fold_push step r.zero (map (λ (j : ℕ). j) (range_with_len 0 k)) k
-        ∙ ap (λ (sum : F). r.add sum (f k)) (along k)
+sum_range r f zero = refl
+sum_range {F} r f (suc n) =
+    ap (fold (λ (sum : F) (k : ℕ). r.add sum (f k)) r.zero) (numbers_more n)
+    ∙ fold_push (λ (sum : F) (k : ℕ). r.add sum (f k)) r.zero (range_with_len 0 n) n
+    ∙ ap (λ (sum : F). r.add sum (f n)) (sum_range r f n)

@@ -3,9 +3,7 @@
 --   entered, struck        the book afterwards
 --   Effect                 a change, a query, or a refused call
 --   fault_number, size_fault_number   the numbers that refusals are reported by
---   fault_text             the text that a refusal is printed as
-use Rattle.std.specs.Fmt.{decimal}
-use Rattle.std.specs.Prelude.{ℕ, ◌*◌, ◌++◌, List, codes, Bool, cond, not, ◌&&◌, ◌||◌, Some, None, Ok, Err, Option, Result, ◌==◌, nat_lt}
+use Rattle.std.specs.Prelude.{ℕ, ◌*◌, Bool, cond, not, ◌&&◌, ◌||◌, Some, None, Ok, Err, Option, Result, ◌==◌, nat_lt}
 use Rattle.factors.specs.Ring.{Operations}
 use Rattle.books.specs.Graph.{Meaning, with_line, stands, reaches, support, needed, total}
 use Rattle.books.specs.declared.fault.BookFault.{BookFault}
@@ -93,10 +91,6 @@ fault_number SameBlock = 2
 fault_number LineStands = 3
 fault_number Circle = 4
 fault_number NoLine = 5
-
--- the text that a refusal is printed as
-abbrev pub fault_text : BookFault → List ℕ
-fault_text fault = codes "number " ++ decimal (fault_number fault)
 
 abbrev pub size_fault_number : SizeFault → ℕ
 size_fault_number SizeOutOfRange = 16

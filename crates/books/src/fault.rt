@@ -1,6 +1,7 @@
 // The refusals of a book and of a size.
 ghost use Rattle.std.specs.Prelude.{◌≡◌, Some};
-ghost use Rattle.books.specs.Calls.{fault_number, fault_text, size_fault_number};
+ghost use Rattle.factors.specs.Coding.{refusal_text};
+ghost use Rattle.books.specs.Calls.{fault_number, size_fault_number};
 
 use std::fmt;
 
@@ -30,7 +31,7 @@ impl BookFault {
 
 // As a refused code prints: a trait for the number of a refusal would be longer than the lines that it saves.
 impl fmt::Display for BookFault {
-    ghost output = { λ fault. Some (fault_text fault) };
+    ghost output = { λ fault. Some (refusal_text (fault_number fault)) };
 
     fn fmt<W: fmt::Write>(&self, f: &mut fmt::Formatter<W>) -> fmt::Result {
         write!(f, "number {}", self.number())

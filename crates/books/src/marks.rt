@@ -3,8 +3,11 @@ ghost use Rattle.std.specs.Prelude.{◌≡◌, ℕ, ◌<◌, ◌≤◌, true, fa
 
 use crate::size::LARGEST_SIZE;
 
+/// A mark for each block that a book can have.
+pub(crate) type Marks = [bool; LARGEST_SIZE];
+
 /// No block is marked.
-pub(crate) fn no_marks() -> [bool; LARGEST_SIZE]
+pub(crate) fn no_marks() -> Marks
     ensures { result ≡ replicate 64 false }
 {
     [false; LARGEST_SIZE]

@@ -4,8 +4,7 @@ ghost use Rattle.books.specs.Graph.{Circleless, stands, reaches};
 ghost use Rattle.books.specs.Cells.{Square, cells_meaning};
 
 use crate::cell::Cell;
-use crate::marks::no_marks;
-use crate::size::LARGEST_SIZE;
+use crate::marks::{Marks, no_marks};
 use crate::square::line_at;
 use factors::factor::Factor;
 
@@ -36,7 +35,7 @@ fn mark_lower<F: Factor>(cells: &[Cell<F>], n: usize, l: usize, seen: &mut [bool
 }
 
 /// The blocks that `a` reaches; each is visited once.
-pub(crate) fn search<F: Factor>(cells: &[Cell<F>], n: usize, a: usize) -> [bool; LARGEST_SIZE]
+pub(crate) fn search<F: Factor>(cells: &[Cell<F>], n: usize, a: usize) -> Marks
     requires square { Square n cells.now }
     requires circleless { Circleless (cells_meaning n cells.now) }
     requires block { a < n }

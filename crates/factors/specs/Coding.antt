@@ -23,6 +23,6 @@ decoding c n = cond (nat_lt n (2 ^ c.width)) (Ok (c.factor n)) (Err BitAboveWidt
 abbrev pub code_fault_number : CodeFault → ℕ
 code_fault_number BitAboveWidth = 13
 
--- the text that it is printed as
-abbrev pub code_fault_text : CodeFault → List ℕ
-code_fault_text fault = codes "number " ++ decimal (code_fault_number fault)
+-- the text that a refusal of this number is printed as
+abbrev pub refusal_text : ℕ → List ℕ
+refusal_text number = codes "number " ++ decimal number

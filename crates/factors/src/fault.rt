@@ -1,6 +1,6 @@
 // The one refusal of a factor kind.
 ghost use Rattle.std.specs.Prelude.{◌≡◌, Some};
-ghost use Rattle.factors.specs.Coding.{code_fault_number, code_fault_text};
+ghost use Rattle.factors.specs.Coding.{code_fault_number, refusal_text};
 
 use std::fmt;
 
@@ -21,7 +21,7 @@ impl CodeFault {
 }
 
 impl fmt::Display for CodeFault {
-    ghost output = { λ fault. Some (code_fault_text fault) };
+    ghost output = { λ fault. Some (refusal_text (code_fault_number fault)) };
 
     fn fmt<W: fmt::Write>(&self, f: &mut fmt::Formatter<W>) -> fmt::Result {
         write!(f, "number {}", self.number())

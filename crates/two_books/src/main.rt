@@ -23,7 +23,10 @@ struct TwoBooks<K: Book, P: Book> {
 }
 
 impl<K: Book<Kind = Whole>, P: Book<Kind = Whole>> TwoBooks<K, P> {
-    fn say_opened(&mut self, rt: &HostRuntime) -> io::Result<()> {
+    fn say_opened(&mut self, rt: &HostRuntime) -> io::Result<()>
+        ensures kept { K.Book.meaning self.new.books.kept ≡ K.Book.meaning self.old.books.kept }
+        ensures plain { P.Book.meaning self.new.books.plain ≡ P.Book.meaning self.old.books.plain }
+    {
         println!(rt;
             "A tariff is opened in two books: {} blocks kept, {} blocks plain. Its lines:",
             self.books.kept.book.size(),

@@ -22,7 +22,9 @@ struct OneBook<B: Book> {
 }
 
 impl<B: Book<Kind = Whole>> OneBook<B> {
-    fn say_opened(&mut self, rt: &HostRuntime) -> io::Result<()> {
+    fn say_opened(&mut self, rt: &HostRuntime) -> io::Result<()>
+        ensures { B.Book.meaning self.new.asked ≡ B.Book.meaning self.old.asked }
+    {
         println!(rt;
             "A tariff of {} blocks is opened. Its lines:",
             self.asked.book.size()

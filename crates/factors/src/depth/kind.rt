@@ -2,7 +2,7 @@
 ghost use Rattle.std.specs.Prelude.{◌≡◌, ◌*◌, ◌^◌, ◌<◌, slice_index, refl};
 ghost use Rattle.factors.specs.Depth.{depth_of, depth_ring, depth_coding};
 
-use crate::depth::Depth;
+use crate::depth::{Depth, Places};
 use crate::factor::{Factor, check_width};
 use crate::fault::CodeFault;
 use std::array;
@@ -22,7 +22,7 @@ impl Depth {
     }
 
     /// The four numbers, the one at place 0 first.
-    pub fn places(self) -> [u16; 4]
+    pub fn places(self) -> Places
         ensures { result ≡ self.places }
     {
         self.places
