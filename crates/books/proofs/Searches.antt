@@ -1,5 +1,5 @@
 -- A search: what its loop keeps, a visit keeps it, and once every block seen is visited the seen ones are the reached ones.
-use Rattle.std.proofs.Common.{◌≡◌, ℕ, suc, ◌<◌, ◌≤◌, Bool, true, false, ◌||◌, ◌⊎◌, List, length, get_or, set, replicate, sym, refl, ap, ◌∙◌, ⊎_elim, arith}
+use Rattle.std.proofs.Common.{◌≡◌, ℕ, suc, ◌<◌, ◌≤◌, Bool, true, false, ◌||◌, ◌⊎◌, List, length, get_or, set, replicate, Option, Some, None, MatchOption, sym, refl, ap, ◌∙◌, ⊎_elim, arith}
 use Rattle.std.proofs.lemmas.List.{get_or-set_same, length-set}
 use Rattle.std.proofs.lemmas.Grind.{common_steps}
 use Rattle.std.proofs.lemmas.Bool.{or_cases, or_left, or_right}
@@ -21,6 +21,14 @@ unmarked n k marked = grind (arith, common_steps)
 -- a place that is marked after one was is that one or was marked before
 newly : (marks : List Bool) (i k : ℕ) → get_or (set marks i true) k false ≡ true → (k ≡ i) ⊎ (get_or marks k false ≡ true)
 newly marks i k marked = grind (arith, common_steps)
+
+-- what a look through the numbers below n finds: the first that passes a test
+pub found_below : (n : ℕ) (Yes No Found : ℕ → Type 0) (found : Option ℕ)
+    → ((l : ℕ) → l < n → Yes l → Found l)
+    → MatchOption found ((k : ℕ) → 0 ≤ k → k < n → No k) (λ i. (0 ≤ i) × (i < n) × Yes i × ((k : ℕ) → 0 ≤ k → k < i → No k))
+    → MatchOption found ((l : ℕ) → l < n → No l) Found
+found_below n Yes No Found None says none = λ l below. none l (omega arith) below
+found_below n Yes No Found (Some i) says first = says i first.1 first.2
 
 module _ {F : Type 0} (m : Meaning F) (a : ℕ) where
   pub search_starts : m.size ≤ 64 → a < m.size → Searched m a (set (replicate 64 false) a true) (replicate 64 false)

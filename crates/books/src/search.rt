@@ -14,10 +14,8 @@ fn next_block(seen: &[bool], visited: &[bool], n: usize) -> Option<usize>
     requires visited { n ≤ length visited.now }
     ensures { MatchOption result ((l : ℕ) → l < n → slice_index_or seen.now l false ≡ true → slice_index_or visited.now l false ≡ true) (λ l. (l < n) × (slice_index_or seen.now l false ≡ true) × (slice_index_or visited.now l false ≡ false)) }
 {
-    seen[..n]
-        .iter()
-        .zip(&visited[..n])
-        .position(|(seen, visited)| *seen && !*visited)
+    // over the numbers: a chain over both lists costs more for each of them
+    (0..n).find(|&l| seen[l] && !visited[l])
 }
 
 /// Marks each block to which a line leads from `l` as seen.

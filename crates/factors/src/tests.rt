@@ -78,3 +78,16 @@ fn a_refused_code_prints_its_number(rt: HostRuntime) -> Result<(), AllocError> {
     assert_eq!(rt; text.as_str(), "number 13");
     Ok(())
 }
+
+#[test]
+fn a_depth_prints_its_numbers_by_name(rt: HostRuntime) -> Result<(), AllocError> {
+    let depth = Depth::new(1, 4095, 4096, 65535);
+    let text = format!(in rt.alloc(); "{depth:?}")?;
+    assert_eq!(rt; text.as_str(), "Depth { c0: 1, c1: 4095, c2: 0, c3: 4095 }");
+    let lines = format!(in rt.alloc(); "{depth:#?}")?;
+    assert_eq!(rt;
+        lines.as_str(),
+        "Depth {\n    c0: 1,\n    c1: 4095,\n    c2: 0,\n    c3: 4095,\n}"
+    );
+    Ok(())
+}
